@@ -1,15 +1,18 @@
 -- The text of the groups of all rows of a source.
 use Rattle.std.proofs.Common.{◌≡◌, ◌≤◌, ◌^◌, ◌∷◌, ◌∙◌, ℕ, List, Option, None, Some, Result, Ok, Err, IfErr, IfSome, length, refl, ap, subst, sym, take}
 use Rattle.std.specs.Io.KnownBytes.{Appends}
+use Rattle.csv_rows.specs.Records.{record_at}
 use Rattle.par_model.specs.Named.{bound_plan}
 use Rattle.par_model.specs.Outcome.{IsAnswer}
+use Rattle.par_model.specs.Plan.{Plan}
 use Rattle.plan_spec.specs.Query.{Query}
 use Rattle.row_blocks.specs.Blocks.{Table}
-use Rattle.gather_law.specs.Shares.{AreShared}
-use Rattle.par_stream.specs.Answers.{IsTableText}
+use Rattle.par_stream.specs.Answers.{AnswersAny, IsTableText}
 use Rattle.par_stream.specs.Outcome.{outcome}
 use Rattle.par_stream.specs.Reading.{AreGroupsOver}
+use Rattle.par_stream.specs.Twice.{twice_of}
 use Rattle.par_stream.specs.declared.reading.ReadGroups.{ReadGroups}
+use Rattle.par_stream.proofs.Gathered.{gathered_accepted}
 use Rattle.par_stream.proofs.Refusals.{accepted_table}
 
 -- what holds of every error holds of the one that there is
@@ -17,27 +20,24 @@ pub IfErr-each : {T E : Type 0} (r : Result T E) (P : E → Type 0) → ((why : 
 IfErr-each (Ok x) P each = tt
 IfErr-each (Err why) P each = each why
 
--- a text answers a query over any rows of which the maps have shares
-abbrev pub AnswersAny : Query → ReadGroups → List ℕ → Type 0
-AnswersAny query r text = (header : List (List ℕ)) (width : ℕ) (rows : Table) → r.bound ≡ bound_plan header query.plan → length rows ≤ 2 ^ 50 → AreShared r.bound width rows r.maps.items → IsAnswer query.plan (header ∷ rows) text
-
 module _ (query : Query) (r : ReadGroups) (text : List ℕ) where
-  pub table_text : (from : Option (List ℕ)) → AnswersAny query r text → AreGroupsOver query from r → IfSome from (λ bytes. IsTableText (Some query) bytes text)
+  pub table_text : (from : Option (List ℕ)) → AnswersAny query.plan r.bound r.gathered text → AreGroupsOver query from r → IfSome from (λ bytes. IsTableText (Some query) bytes text)
   table_text None answers over = tt
   table_text (Some bytes) answers over = record {
     query = query;
     is = refl;
-    has_table = ap (outcome query.plan) over.all ∙ accepted_table query over.header r.bound over.bound over.rows over.shared.accepted;
-    is_text = subst (λ (l : Table). IsAnswer query.plan l text) (sym over.all) (answers over.header (length over.header) over.rows over.bound.is over.few over.shared);
+    has_table = ap (outcome query.plan) over.all ∙ accepted_table query over.header r.bound over.bound over.rows (gathered_accepted r.bound (length over.header) over.rows r.gathered over.gathered);
+    once = subst (λ (l : Table). twice_of (bound_plan (record_at l 0) query.plan) (record_at l 0) ≡ None) (sym over.all) (subst (λ (p : Plan). twice_of p over.header ≡ None) over.bound.is over.bound.once);
+    is_text = subst (λ (l : Table). IsAnswer query.plan l text) (sym over.all) (answers over.header (length over.header) over.rows over.bound.is over.few over.gathered);
   }
 
   -- what was written of it
-  pub table_written : (from old new : Option (List ℕ)) → AnswersAny query r text → AreGroupsOver query from r → Appends old new text
+  pub table_written : (from old new : Option (List ℕ)) → AnswersAny query.plan r.bound r.gathered text → AreGroupsOver query from r → Appends old new text
       → IfSome from (λ bytes. (text : List ℕ) × IsTableText (Some query) bytes text × Appends old new text)
   table_written None old new answers over wrote = tt
   table_written (Some bytes) old new answers over wrote = (text, table_text (Some bytes) answers over, wrote)
 
-  pub part_written : (from old new : Option (List ℕ)) (n : ℕ) → AnswersAny query r text → AreGroupsOver query from r → Appends old new (take n text)
+  pub part_written : (from old new : Option (List ℕ)) (n : ℕ) → AnswersAny query.plan r.bound r.gathered text → AreGroupsOver query from r → Appends old new (take n text)
       → IfSome from (λ bytes. (text : List ℕ) × IsTableText (Some query) bytes text × (n : ℕ) × Appends old new (take n text))
   part_written None old new n answers over wrote = tt
   part_written (Some bytes) old new n answers over wrote = (text, table_text (Some bytes) answers over, n, wrote)

@@ -1,5 +1,5 @@
 -- Where a record is in the input: the line in which it begins, and a quote in it that is not closed.
-use Rattle.std.specs.Prelude.{◌≡◌, ◌≢◌, ◌<◌, ◌≤◌, ◌+◌, ◌-◌, ◌++◌, [], ℕ, Bool, List, All, None, Option, Some, IfSome, codes, decimal, drop, false, length, map, option_map, slice_index, slice_index_or, string_bytes, take, true}
+use Rattle.std.specs.Prelude.{◌≡◌, ◌≢◌, ◌⊎◌, ◌<◌, ◌≤◌, ◌+◌, ◌-◌, ◌++◌, [], ℕ, Bool, List, All, None, Option, Some, IfSome, codes, decimal, drop, false, length, map, option_map, slice_index, slice_index_or, string_bytes, take, true}
 use Rattle.std.specs.List.{concat}
 use Rattle.csv.specs.Reading.{strip_bom}
 use Rattle.csv_rows.specs.Cuts.{IsCut}
@@ -7,8 +7,9 @@ use Rattle.csv_rows.specs.Places.{place_after}
 use Rattle.csv_rows.specs.Records.{records_of}
 use Rattle.csv_rows.specs.declared.place.Place.TheVariants as scan
 use Rattle.par_model.specs.Named.{NamedPlan}
-use Rattle.row_windows.specs.Seams.{is_line_end}
+use Rattle.row_windows.specs.Seams.{BeginsLine, is_line_end}
 use Rattle.row_windows.specs.Stretch.{Stretch}
+use Rattle.split_run.specs.Pieces.{piece_rows}
 use Rattle.text_lines.specs.Begins.{AllEndFrom, BeginsAt}
 use Rattle.text_lines.specs.Feeds.{count_feeds}
 use Rattle.text_lines.specs.Quotes.{IsOpenQuote}
@@ -80,6 +81,23 @@ no_stretch = record { header = []; lines = []; rest = [] }
 -- the window of this number
 abbrev pub piece_at : List Stretch → ℕ → Stretch
 piece_at pieces at = slice_index_or pieces at no_stretch
+
+-- a text of no bytes, or one that begins with the end of a line
+abbrev pub BeginsOrNone : List ℕ → Type 0
+BeginsOrNone text = (text ≡ []) ⊎ BeginsLine text
+
+-- the rows of a window are the records of its lines, which begin with the end of a line unless there are none
+pub record IsLined (w : Stretch) : Type 0 where
+  pub begins : BeginsOrNone w.lines
+  pub rows : piece_rows w ≡ records_of w.lines
+
+-- the lines of each of some windows end outside quotes
+abbrev pub AllCut : List Stretch → Type 0
+AllCut pieces = All (λ w. IsCut w.lines) pieces
+
+-- the lines of each window that has another one after it do
+abbrev pub AreCut : List Stretch → Type 0
+AreCut pieces = (k : ℕ) → k + 1 < length pieces → IsCut (piece_at pieces k).lines
 
 -- The place of the record of some lines before which there are so many others; so many line feeds come before the lines. What
 -- is said of a quote is said only of the last record

@@ -16,10 +16,11 @@ use Rattle.row_windows.specs.declared.window.WindowAnswer.TheVariants as answer
 use Rattle.gather_law.specs.Shares.{together}
 use Rattle.split_run.specs.Pieces.{AreUnder, piece_records, piece_rows, rows_of}
 use Rattle.text_lines.specs.Feeds.{count_feeds}
-use Rattle.par_stream.specs.Begins.{feeds_of, lines_of, piece_at}
+use Rattle.par_stream.specs.Begins.{AllCut, AreCut, IsLined, feeds_of, lines_of}
 use Rattle.par_stream.specs.Gathered.{HasGathered, participants_of}
 use Rattle.par_stream.specs.Twice.{twice_of}
 use Rattle.par_stream.specs.declared.batch.Batch.{Batch}
+use Rattle.par_stream.specs.declared.filling.First.{First}
 use Rattle.par_stream.specs.declared.adding.Added.{Added}
 use Rattle.par_stream.specs.declared.reading.ReadGroups.{ReadGroups}
 use Rattle.par_stream.specs.declared.reading.Stream.{Stream}
@@ -52,27 +53,23 @@ HasAll from records = IfSome from (λ bytes. records_of bytes ≡ records)
 abbrev pub Begins : Option (List ℕ) → Table → Type 0
 Begins from records = IfSome from (λ bytes. (more : Table) × (records_of bytes ≡ records ++ more))
 
--- some windows are a part of bytes: in front of their lines there are some records, outside quotes, and so many line feeds
-pub record ArePart (bytes : List ℕ) (records : Table) (feeds : ℕ) (pieces : List Stretch) : Type 0 where
+-- The lines of some windows are a part of bytes: before them come some records and so many line feeds, which end outside
+-- quotes, and after them other bytes. If there are such bytes, they begin with the end of a line, and the lines of each window
+-- end outside quotes
+pub record ArePart (bytes : List ℕ) (records : Table) (feeds : ℕ) (pieces : List Stretch) (back : List ℕ) : Type 0 where
   pub front : List ℕ
-  pub back : List ℕ
   pub are : bytes ≡ front ++ (lines_of pieces ++ back)
   pub is : records_of front ≡ records
   pub feeds : count_feeds front ≡ feeds
   pub whole : IsCut front
-  pub next : (back ≡ []) ⊎ (BeginsLine back × IsCut (lines_of pieces))
+  pub cuts : AreCut pieces
+  pub next : (back ≡ []) ⊎ (BeginsLine back × AllCut pieces)
 
--- likewise if the source tells
-abbrev pub HasPart : Option (List ℕ) → Table → ℕ → List Stretch → Type 0
-HasPart from records feeds pieces = IfSome from (λ bytes. ArePart bytes records feeds pieces)
-
--- the lines of a window begin with the end of a line, unless it has none
-abbrev pub BeginsOrNone : Stretch → Type 0
-BeginsOrNone w = (w.lines ≡ []) ⊎ BeginsLine w.lines
-
--- the lines of each window that has another one after it end outside quotes
-abbrev pub AreCut : List Stretch → Type 0
-AreCut pieces = (k : ℕ) → k + 1 < length pieces → IsCut (piece_at pieces k).lines
+-- likewise of a source that had some bytes left and now has others, after a rest that was read, if it tells
+abbrev pub HasPart : Option (List ℕ) → Option (List ℕ) → Table → ℕ → List Stretch → List ℕ → Type 0
+HasPart None left records feeds pieces rest = ⊤
+HasPart (Some bytes) None records feeds pieces rest = ⊥
+HasPart (Some bytes) (Some left) records feeds pieces rest = ArePart bytes records feeds pieces (rest ++ left)
 
 -- what there is of a source after a window that is the last, or not
 pub record Reaches (from left : Option (List ℕ)) (records : Table) (feeds : ℕ) (rest : List ℕ) (is_last : Bool) : Type 0 where
@@ -104,6 +101,14 @@ pub record HasHeader (header : Table) (w : Stretch) (is_last : Bool) : Type 0 wh
   pub cut : is_last ≡ false → IsCut w.header
   pub next : is_last ≡ false → BeginsLine w.rest
 
+-- this is that window with its record, which is the last or not, after so many line feeds and those of the header's line
+pub record IsFirst (window : Stretch) (header : Table) (is_last : Bool) (feeds : ℕ) (f : First) : Type 0 where
+  pub window : f.window ≡ window
+  pub header : f.header ≡ header
+  pub last : f.is_last ≡ is_last
+  pub feeds : f.feeds ≡ feeds + count_feeds window.header
+  pub few : f.feeds ≤ 2 ^ 60
+
 -- ---- a batch
 
 -- the records of the lines of some windows
@@ -133,16 +138,16 @@ pub record MeetsLong (old new : Option (List ℕ)) (was now : Batch) : Type 0 wh
 -- windows have that one's header, and the records and line feeds of their lines come next
 pub record IsFilledBatch (old new : Option (List ℕ)) (was : Stretch) (feeds : ℕ) (b : Batch) (is_last : Bool) : Type 0 where
   pub before : b.before ≡ feeds
-  pub few_feeds : b.feeds ≤ 2 ^ 60
   pub counted : b.feeds ≡ feeds + feeds_of b.pieces.items
-  pub cuts : AreCut b.pieces.items
+  pub few_feeds : b.feeds ≤ 2 ^ 60
   pub few : length b.pieces.items ≤ 64
   pub header : b.next.header ≡ was.header
   pub lines : b.next.lines ≡ []
   pub headers : All (λ w. w.header ≡ was.header) b.pieces.items
   pub begins : BeginsLine was.rest → All (λ w. BeginsLine w.lines) b.pieces.items
+  pub cut : is_last ≡ false → AllCut b.pieces.items
   pub reads : (from : Option (List ℕ)) (records : Table) → HasRead from old records feeds was.rest → Reaches from new (records ++ line_records b.pieces.items) b.feeds b.next.rest is_last
-  pub part : (from : Option (List ℕ)) (records : Table) → HasRead from old records feeds was.rest → HasPart from records feeds b.pieces.items
+  pub part : (from : Option (List ℕ)) (records : Table) → BeginsLine was.rest → HasRead from old records feeds was.rest → HasPart from new records feeds b.pieces.items b.next.rest
   pub line : BeginsLine was.rest → is_last ≡ false → BeginsLine b.next.rest
 
 -- the windows of a batch begin with the line of a header, which has one record and is cut off before the end of a line
@@ -151,10 +156,9 @@ pub record IsHeaded (header : Table) (b : Batch) (is_last : Bool) : Type 0 where
   pub one : length header ≡ 1
   pub line : records_of b.next.header ≡ header
   pub pieces : AreUnder (record_at header 0) b.pieces.items
-  pub lines : All BeginsOrNone b.pieces.items
-  pub cuts : AreCut b.pieces.items
+  pub lines : All IsLined b.pieces.items
+  pub counted : b.feeds ≡ b.before + feeds_of b.pieces.items
   pub few_feeds : b.feeds ≤ 2 ^ 60
-  pub before : b.before ≤ b.feeds
   pub cut : is_last ≡ false → IsCut b.next.header
   pub next : is_last ≡ false → BeginsLine b.next.rest
 
@@ -185,11 +189,12 @@ pub record IsStream (query : Query) (plan : Plan) (s : Stream) : Type 0 where
   pub many : participants_of s.added.gathered ≡ query.workers + 1
   pub few : s.added.count ≤ 2 ^ 50
 
--- it has added these rows, which were read of a source after the header; those of its batch come next
+-- It has added these rows, which were read of a source after the header; those of its batch come next, and if there are
+-- lines, they are a part of what was read
 pub record HasRows (plan : Plan) (from left : Option (List ℕ)) (s : Stream) (rows : Table) : Type 0 where
   pub added : HasAdded plan (length (record_at s.header 0)) rows s.added
   pub reaches : Reaches from left (record_at s.header 0 ∷ (rows ++ rows_of s.batch.pieces.items)) s.batch.feeds s.batch.next.rest s.is_last
-  pub part : HasPart from (record_at s.header 0 ∷ rows) s.batch.before s.batch.pieces.items
+  pub part : 0 < length (lines_of s.batch.pieces.items) → HasPart from left (record_at s.header 0 ∷ rows) s.batch.before s.batch.pieces.items s.batch.next.rest
 
 -- what is gathered has all rows of a source, of which none is refused
 pub record AreGroupsOver (query : Query) (from : Option (List ℕ)) (r : ReadGroups) : Type 0 where

@@ -18,7 +18,7 @@ use Rattle.row_windows.specs.declared.window.WindowAnswer.{WindowAnswer}
 use Rattle.row_windows.specs.declared.window.WindowAnswer.TheVariants as window
 use Rattle.shown_text.specs.Header.{missing_text}
 use Rattle.par_stream.specs.Said.{row_says}
-use Rattle.par_stream.specs.Begins.{IsPlaceIn, IsPlaceOfLong, PlacesLong, PlacesRow, feeds_of, piece_at}
+use Rattle.par_stream.specs.Begins.{IsPlaceIn, IsPlaceOfLong, PlacesLong, PlacesRow, feeds_of, lines_of, piece_at}
 use Rattle.par_stream.specs.Twice.{SaysTwice}
 use Rattle.par_stream.specs.declared.place.Place.{Place}
 use Rattle.par_stream.specs.Outcome.{outcome_over}
@@ -105,11 +105,11 @@ Tells query left (stop.Refused row line said) = NamesFirstRow query left row lin
 Tells query left stop.WriteFault = IfSome left (λ bytes. outcome_over query.plan bytes ≡ Table)
 Tells query left stop.Memory = ⊤
 
--- Why the rows of a batch were not added to the maps of some others, which come before them: it is so said of each source
+-- Why the rows of a batch were not added to some others, which come before them: it is so said of each source
 -- whose records begin with the header and all these rows
 abbrev pub TellsOfRows : Query → Plan → Batch → Added → Stop → Type 0
-TellsOfRows query plan b added why = (from : Option (List ℕ)) (header : List (List ℕ)) (rows : Records) → IsBound query header plan → AreUnder header b.pieces.items → HasAdded plan (length header) rows added
-    → Begins from (header ∷ (rows ++ rows_of b.pieces.items)) → HasPart from (header ∷ rows) b.before b.pieces.items → Tells query from why
+TellsOfRows query plan b added why = (from left : Option (List ℕ)) (header : List (List ℕ)) (rows : Records) → IsBound query header plan → AreUnder header b.pieces.items → HasAdded plan (length header) rows added
+    → Begins from (header ∷ (rows ++ rows_of b.pieces.items)) → (0 < length (lines_of b.pieces.items) → HasPart from left (header ∷ rows) b.before b.pieces.items b.next.rest) → Tells query from why
 
 -- what a reason says of what words ask for, a query or nothing
 abbrev pub TellsOf : Option Query → Option (List ℕ) → Stop → Type 0
@@ -161,6 +161,7 @@ pub record SaysOfRow (plan : NamedPlan) (bound : Plan) (pieces : List Stretch) (
   pub place : Place
   pub within : piece < length pieces
   pub some : 1 ≤ at
+  pub high : at ≤ length (piece_rows (piece_at pieces piece))
   pub number : length (rows_of (take piece pieces)) + at ≡ row
   pub is : IsPlaceIn (piece_at pieces piece).lines (at - 1) (at == length (piece_rows (piece_at pieces piece))) (feeds + feeds_of (take piece pieces)) place
   pub line : line ≡ place.line

@@ -1,9 +1,11 @@
 //! The rows of a batch among the participants, and the filling of the next one at the same time.
 
-ghost use Rattle.std.specs.Prelude.{◌≡◌, ◌<◌, ◌≤◌, ◌+◌, ◌^◌, ◌⊎◌, [], All, IfErr, IfOk, OnOk, length};
+ghost use Rattle.std.specs.Prelude.{◌≡◌, ◌<◌, ◌≤◌, ◌+◌, ◌^◌, ◌⊎◌, [], All, Err, IfErr, IfOk, OnOk, length};
 ghost use Rattle.split_run.specs.Pieces.{HaveColumns};
-ghost use Rattle.par_stream.specs.Begins.{feeds_of};
-ghost use Rattle.par_stream.specs.Reading.{AddsBatch, BeginsOrNone, IsFilledBatch, IsNotFilled, participants_of};
+ghost use Rattle.row_windows.specs.declared.window.WindowAnswer.TheVariants as answer;
+ghost use Rattle.par_stream.specs.Begins.{IsLined, feeds_of};
+ghost use Rattle.par_stream.specs.Gathered.{participants_of};
+ghost use Rattle.par_stream.specs.Reading.{AddsBatch, IsFilledBatch, IsNotFilled};
 ghost use Rattle.par_stream.specs.Stops.{TellsOfRows};
 ghost use Rattle.par_stream.specs.declared.stop.Stop.TheVariants as stop;
 
@@ -44,7 +46,7 @@ pub(crate) fn add_and_fill<R: Threads + Wait + Sync, S: Source>(
     size: usize,
 ) -> Result<Result<bool, WindowAnswer>, Stop>
     requires pieces { length batch.now.pieces.items ≤ 64 }
-    requires lines { All BeginsOrNone batch.now.pieces.items }
+    requires lines { All IsLined batch.now.pieces.items }
     requires feeds { batch.now.before + feeds_of batch.now.pieces.items ≤ 2 ^ 60 }
     requires columns { HaveColumns bound.now batch.now.pieces.items }
     requires many { participants_of added.old.gathered ≡ plan.now.workers + 1 }
@@ -54,7 +56,8 @@ pub(crate) fn add_and_fill<R: Threads + Wait + Sync, S: Source>(
     requires few_feeds { next.old.feeds ≤ 2 ^ 60 }
     ensures added { OnOk result (AddsBatch bound.now batch.now added.old added.new) }
     ensures filled { IfOk result (λ filled. IfOk filled (IsFilledBatch (S.left source.old) (S.left source.new) next.old.next next.old.before next.new)) }
-    ensures feeds { IfOk result (λ filled. IfErr filled (λ _. next.new.feeds ≡ next.old.feeds)) }
+    ensures feeds { IfOk result (λ filled. filled ≡ Err answer.LongRecord → next.new.feeds ≡ next.old.feeds) }
+    ensures few_feeds { OnOk result (next.new.feeds ≤ 2 ^ 60) }
     ensures not_filled { IfOk result (λ filled. IfErr filled (IsNotFilled (S.left source.old) (S.left source.new) (S.faults source.old) (S.faults source.new) next.old.next next.new.next)) }
     ensures why { IfErr result (TellsOfRows plan.now bound.now batch.now added.old) }
     ensures kind { IfErr result (λ why. ((why ≡ stop.ReadFault) ⊎ (why ≡ stop.WriteFault)) → ⊥) }
@@ -80,7 +83,7 @@ fn add_beside<R: Threads + Wait + Sync, S: Source>(
     size: usize,
 ) -> Result<Result<bool, WindowAnswer>, Stop>
     requires pieces { length batch.now.pieces.items ≤ 64 }
-    requires lines { All BeginsOrNone batch.now.pieces.items }
+    requires lines { All IsLined batch.now.pieces.items }
     requires feeds { batch.now.before + feeds_of batch.now.pieces.items ≤ 2 ^ 60 }
     requires columns { HaveColumns bound.now batch.now.pieces.items }
     requires many { participants_of added.old.gathered ≡ plan.now.workers + 1 }
@@ -90,7 +93,8 @@ fn add_beside<R: Threads + Wait + Sync, S: Source>(
     requires few_feeds { next.old.feeds ≤ 2 ^ 60 }
     ensures added { OnOk result (AddsBatch bound.now batch.now added.old added.new) }
     ensures filled { IfOk result (λ filled. IfOk filled (IsFilledBatch (S.left source.old) (S.left source.new) next.old.next next.old.before next.new)) }
-    ensures feeds { IfOk result (λ filled. IfErr filled (λ _. next.new.feeds ≡ next.old.feeds)) }
+    ensures feeds { IfOk result (λ filled. filled ≡ Err answer.LongRecord → next.new.feeds ≡ next.old.feeds) }
+    ensures few_feeds { OnOk result (next.new.feeds ≤ 2 ^ 60) }
     ensures not_filled { IfOk result (λ filled. IfErr filled (IsNotFilled (S.left source.old) (S.left source.new) (S.faults source.old) (S.faults source.new) next.old.next next.new.next)) }
     ensures why { IfErr result (TellsOfRows plan.now bound.now batch.now added.old) }
     ensures kind { IfErr result (λ why. ((why ≡ stop.ReadFault) ⊎ (why ≡ stop.WriteFault)) → ⊥) }
@@ -98,7 +102,7 @@ fn add_beside<R: Threads + Wait + Sync, S: Source>(
 {
     let mut add = || -> Result<(), Stop>
         requires pieces { length batch.now.pieces.items ≤ 64 }
-        requires lines { All BeginsOrNone batch.now.pieces.items }
+        requires lines { All IsLined batch.now.pieces.items }
         requires feeds { batch.now.before + feeds_of batch.now.pieces.items ≤ 2 ^ 60 }
         requires columns { HaveColumns bound.now batch.now.pieces.items }
         requires many { participants_of added.now.gathered ≡ plan.now.workers + 1 }
@@ -113,6 +117,8 @@ fn add_beside<R: Threads + Wait + Sync, S: Source>(
         requires few_feeds { next.now.feeds ≤ 2 ^ 60 }
         ensures filled { IfOk result (IsFilledBatch (S.left source.entry.now) (S.left source.exit.now) next.entry.now.next next.entry.now.before next.exit.now) }
         ensures why { IfErr result (IsNotFilled (S.left source.entry.now) (S.left source.exit.now) (S.faults source.entry.now) (S.faults source.exit.now) next.entry.now.next next.exit.now.next) }
+        ensures feeds { result ≡ Err answer.LongRecord → next.exit.now.feeds ≡ next.entry.now.feeds }
+        ensures few_feeds { next.exit.now.feeds ≤ 2 ^ 60 }
         ensures faults { S.faults source.entry.now ≤ S.faults source.exit.now }
     { next.fill(alloc, source, size) };
     let (adding, filling) = join_mut(rt, &mut add, &mut read);
@@ -131,7 +137,7 @@ pub(crate) fn add_batch<R: Threads + Wait + Sync>(
     size: usize,
 ) -> Result<(), Stop>
     requires pieces { length batch.now.pieces.items ≤ 64 }
-    requires lines { All BeginsOrNone batch.now.pieces.items }
+    requires lines { All IsLined batch.now.pieces.items }
     requires feeds { batch.now.before + feeds_of batch.now.pieces.items ≤ 2 ^ 60 }
     requires columns { HaveColumns bound.now batch.now.pieces.items }
     requires many { participants_of added.old.gathered ≡ plan.now.workers + 1 }

@@ -107,6 +107,7 @@ impl Batch {
         ensures filled { IfOk result (IsFilledBatch (S.left source.old) (S.left source.new) self.old.next self.old.before self.new) }
         ensures why { IfErr result (IsNotFilled (S.left source.old) (S.left source.new) (S.faults source.old) (S.faults source.new) self.old.next self.new.next) }
         ensures feeds { result ≡ Err answer.LongRecord → self.new.feeds ≡ self.old.feeds }
+        ensures few_feeds { self.new.feeds ≤ 2 ^ 60 }
         ensures faults { S.faults source.old ≤ S.faults source.new }
     {
         let mut spares = mem::replace(&mut self.pieces, Vec::new(alloc));
@@ -142,6 +143,7 @@ impl Batch {
         requires few { self.old.feeds ≤ 2 ^ 60 }
         ensures added { IfOk result (AddsPiece (S.left source.old) (S.left source.new) self.old self.new) }
         ensures long { result ≡ Err answer.LongRecord → MeetsLong (S.left source.old) (S.left source.new) self.old self.new }
+        ensures few_feeds { self.new.feeds ≤ 2 ^ 60 }
         ensures read_fault { result ≡ Err answer.ReadFault → Rose (S.faults source.old) (S.faults source.new) }
         ensures faults { S.faults source.old ≤ S.faults source.new }
     {

@@ -1,6 +1,6 @@
 //! The windows of a source: how one is filled, and how the first is parted from its header.
 
-ghost use Rattle.std.specs.Prelude.{◌≡◌, ◌≤◌, ◌+◌, ◌^◌, ◌++◌, ◌∷◌, ◌⊎◌, [], ℕ, List, Option, Err, IfErr, IfOk, OnErr, OnOk, length, string_bytes};
+ghost use Rattle.std.specs.Prelude.{◌≡◌, ◌<◌, ◌≤◌, ◌+◌, ◌^◌, ◌++◌, ◌∷◌, ◌⊎◌, [], ℕ, List, Option, Err, IfErr, IfOk, OnErr, OnOk, length, string_bytes};
 ghost use Rattle.csv_rows.specs.Cuts.{IsCut};
 ghost use Rattle.csv_rows.specs.Records.{record_at, records_of};
 ghost use Rattle.csv_rows.specs.declared.records.RowsAnswer.TheVariants as parsing;
@@ -8,7 +8,8 @@ ghost use Rattle.par_io.specs.Faults.{Rose};
 ghost use Rattle.row_blocks.specs.Blocks.{Table};
 ghost use Rattle.split_run.specs.Pieces.{piece_records};
 ghost use Rattle.text_lines.specs.Feeds.{count_feeds};
-ghost use Rattle.par_stream.specs.Reading.{BeginsOrNone, HasHeader, HasPart, IsFilled, IsNotFilled, Reaches};
+ghost use Rattle.par_stream.specs.Begins.{IsLined};
+ghost use Rattle.par_stream.specs.Reading.{HasHeader, HasPart, IsFilled, IsFirst, IsNotFilled, Reaches};
 ghost use Rattle.par_stream.specs.Stops.{IsStopOfLong, IsStopOfWindow, SaysOfLong, Tells};
 ghost use Rattle.par_stream.specs.declared.stop.Stop.TheVariants as stop;
 
@@ -48,8 +49,8 @@ pub(crate) fn first_window<R: Wait, S: Source>(
 ) -> Result<First, Stop>
     ensures header { IfOk result (λ f. HasHeader f.header f.window f.is_last) }
     ensures reaches { IfOk result (λ f. Reaches (S.left source.old) (S.left source.new) (piece_records f.window) (f.feeds + count_feeds f.window.lines) f.window.rest f.is_last) }
-    ensures part { IfOk result (λ f. HasPart (S.left source.old) (record_at f.header 0 ∷ []) f.feeds (f.window ∷ [])) }
-    ensures begins { IfOk result (λ f. BeginsOrNone f.window) }
+    ensures part { IfOk result (λ f. 0 < length f.window.lines → HasPart (S.left source.old) (S.left source.new) (record_at f.header 0 ∷ []) f.feeds (f.window ∷ []) f.window.rest) }
+    ensures lined { IfOk result (λ f. IsLined f.window) }
     ensures few { IfOk result (λ f. f.feeds ≤ 2 ^ 60) }
     ensures why { IfErr result (λ why. (query : _) → Tells query (S.left source.old) why) }
     ensures read_fault { IfErr result (λ why. why ≡ stop.ReadFault → Rose (S.faults source.old) (S.faults source.new)) }
@@ -78,11 +79,7 @@ pub(crate) fn first_window<R: Wait, S: Source>(
 /// The first window that has a record, which is the header's. So many line feeds come before that one's line.
 fn first_of(window: Window, header: RowStore, is_last: bool, feeds: u64) -> Result<First, Stop>
     requires { feeds ≤ 2 ^ 60 }
-    ensures window { IfOk result (λ f. f.window ≡ window) }
-    ensures header { IfOk result (λ f. f.header ≡ header) }
-    ensures last { IfOk result (λ f. f.is_last ≡ is_last) }
-    ensures feeds { IfOk result (λ f. f.feeds ≡ feeds + count_feeds window.header) }
-    ensures few { IfOk result (λ f. f.feeds ≤ 2 ^ 60) }
+    ensures first { IfOk result (IsFirst window header is_last feeds) }
     ensures why { IfErr result (λ why. why ≡ stop.Memory) }
 {
     let feeds = more_feeds(feeds, window.header())?;
@@ -100,7 +97,8 @@ pub(crate) fn more_feeds(feeds: u64, bytes: &[u8]) -> Result<u64, AllocError>
     ensures more { IfOk result (λ more. more ≡ feeds + count_feeds bytes.now) }
     ensures few { IfOk result (λ more. more ≤ 2 ^ 60) }
 {
-    let more = feeds + line_feeds(bytes);
+    let count = line_feeds(bytes);
+    let more = feeds + count;
     if more > MOST_FEEDS {
         return Err(AllocError);
     }
@@ -185,7 +183,8 @@ fn part_header(alloc: Global, window: &mut Window) -> Result<RowStore, RowsAnswe
     ensures first { OnOk result ((more : Table) × (records_of window.old.lines ≡ records_of window.new.header ++ more)) }
     ensures same { OnOk result (window.new.header ++ window.new.lines ≡ window.old.lines) }
     ensures cut { OnOk result (IsCut window.old.lines → IsCut window.new.header) }
-    ensures begins { OnOk result (BeginsOrNone window.new) }
+    ensures front { OnOk result (0 < length window.new.lines → IsCut window.new.header) }
+    ensures lined { OnOk result (IsLined window.new) }
     ensures rest { window.new.rest ≡ window.old.rest }
     ensures err { OnErr result (window.new ≡ window.old) }
     ensures no_header { result ≡ Err parsing.NoHeader → records_of window.old.lines ≡ [] }

@@ -137,7 +137,8 @@ fn near_or_parted<R: Threads + Sync>(
 fn are_many(bound: &BoundPlan, maps: &[GroupMap], before: usize, more: u64, size: usize) -> bool
     ensures { result ≡ true → 0 < length bound.now.groups }
 {
-    if group_count(bound) == 0 || maps.len() < FEWEST_PARTICIPANTS {
+    let columns = group_count(bound);
+    if columns == 0 || maps.len() < FEWEST_PARTICIPANTS {
         return false;
     }
     let new = all_groups(maps).saturating_sub(before) as u64;

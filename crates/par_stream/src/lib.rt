@@ -2,9 +2,11 @@
 //! or by the caller's thread only.
 //!
 //! The words name a plan; the bytes are read window by window, whole records each. The windows of a batch are shared out to
-//! the participants, and if there are workers the caller's thread fills the next batch meanwhile. After the last batch the
-//! groups are put together, and their text is made in ranges of the order and written. So nothing is written before the
-//! last byte was read, and only the groups, two batches, and the rows of one window a participant are in memory.
+//! the participants, and if there are workers the caller's thread fills the next batch meanwhile. Each participant has its
+//! own groups while they are few; many groups are parted by their keys, and from then on rows wait in lists before they are
+//! grouped. After the last batch the groups are put together, and their text is made and written. So nothing is written
+//! before the last byte was read, and only the groups, two batches, the rows of one window a participant and those that
+//! wait are in memory.
 //!
 //! The first fault ends it: the words, a read that failed, no header, a column that it lacks, a record that is too long, a
 //! refused row, and the writing, as they come on the way through the input.
@@ -58,7 +60,9 @@ pub const WINDOW_BYTES: usize = 4_194_304;
 /// by batch to `progress` ([`Untold`] if nobody asks), and that it has ended before anything is written.
 ///
 /// Time is linear in the input, but for the look-up of each row's group and the order of the groups. Memory is two
-/// batches of windows, for each participant the records of one window and the groups of its own rows, and the text.
+/// batches of windows, for each participant the records of one window and the groups of its own rows, and the text. If the
+/// groups are many and there are workers, each group is there once, with rows that wait: the bytes of four batches, or 32
+/// for each group if that is more, and those of one batch.
 pub fn stream_table<R: Threads + Wait + Sync, S: Source, O: Sink, E: Sink, P: Progress>(
     rt: &R,
     alloc: Global,

@@ -78,8 +78,8 @@ fn text_of_maps<R: Threads + Sync>(
     requires rows { HasSome bound.now (gather.Near maps) }
     ensures { IfOk result (λ pieces. AnswersAny plan.now.plan bound.now (gather.Near maps) (joined pieces.items)) }
 {
-    let few = maps.len() < FEWEST_PARTICIPANTS || all_groups(&maps) < FEWEST_GROUPS;
-    if few || group_count(bound) == 0 {
+    let columns = group_count(bound);
+    if columns == 0 || maps.len() < FEWEST_PARTICIPANTS || all_groups(&maps) < FEWEST_GROUPS {
         return table_text(rt, alloc, plan, bound, maps, FEWEST_GROUPS);
     }
     let parts = Parts::begin(rt, alloc, maps)?;

@@ -1,9 +1,9 @@
 //! Where a record is in the input, as an editor finds it: the line in which it begins, and a quote that it does not close.
 
-ghost use Rattle.std.specs.Prelude.{◌<◌, ◌≤◌, ◌+◌, ◌^◌, IfOk, length, string_bytes};
+ghost use Rattle.std.specs.Prelude.{◌≡◌, ◌<◌, ◌≤◌, ◌+◌, ◌++◌, ◌^◌, [], IfOk, Some, decimal, false, length, string_bytes, true};
 ghost use Rattle.csv_rows.specs.Records.{records_of};
 ghost use Rattle.row_windows.specs.Seams.{BeginsLine};
-ghost use Rattle.par_stream.specs.Begins.{IsPlaceIn, IsPlaceOfLong, SaysQuote};
+ghost use Rattle.par_stream.specs.Begins.{IsPlaceIn, IsPlaceOfLong, SaysQuote, quote_text};
 
 use csv_rows::without_mark;
 use std::alloc::{AllocError, Global};
@@ -30,12 +30,9 @@ pub(crate) fn place_in_lines(
     ensures { IfOk result (IsPlaceIn lines.now before is_last feeds) }
 {
     let begin = record_begin(lines, before);
-    let line = feeds + line_feeds(&lines[..begin]) + 1;
-    let quote = if is_last {
-        quote_says(alloc, &lines[begin..], line)?
-    } else {
-        String::new(alloc)
-    };
+    let more = line_feeds(&lines[..begin]);
+    let line = feeds + more + 1;
+    let quote = last_says(alloc, &lines[begin..], line, is_last)?;
     Ok(Place { line, quote })
 }
 
@@ -47,21 +44,51 @@ pub(crate) fn place_of_long(alloc: Global, text: &[u8], feeds: u64) -> Result<Pl
 {
     let text = without_mark(text);
     let begin = past_ends(text, 0);
-    let line = feeds + line_feeds(&text[..begin]) + 1;
+    let more = line_feeds(&text[..begin]);
+    let line = feeds + more + 1;
     let quote = quote_says(alloc, &text[begin..], line)?;
     Ok(Place { line, quote })
 }
 
+/// What is said of a quote that is not closed at the end of the last record, which begins in this line, and of no other one.
+fn last_says(alloc: Global, text: &[u8], line: u64, is_last: bool) -> Result<String, AllocError>
+    requires { line + length text.now < 2 ^ 64 }
+    ensures last { IfOk result (λ said. is_last ≡ true → SaysQuote text.now line (string_bytes said)) }
+    ensures others { IfOk result (λ said. is_last ≡ false → string_bytes said ≡ []) }
+{
+    if is_last {
+        return quote_says(alloc, text, line);
+    }
+    Ok(String::new(alloc))
+}
+
 /// What is said of a quote that is not closed at the end of a text, which begins in this line.
 fn quote_says(alloc: Global, text: &[u8], line: u64) -> Result<String, AllocError>
-    requires few { line + length text.now < 2 ^ 64 }
+    requires { line + length text.now < 2 ^ 64 }
     ensures { IfOk result (λ said. SaysQuote text.now line (string_bytes said)) }
 {
-    let Some(at) = open_quote(text) else {
-        return String::from_str(alloc, "");
-    };
+    match open_quote(text) {
+        Some(at) => {
+            let more = line_feeds(&text[..at]);
+            open_says(alloc, line + more)
+        }
+        None => Ok(String::new(alloc)),
+    }
+}
+
+/// What is said of a quote in this line that is not closed.
+fn open_says(alloc: Global, line: u64) -> Result<String, AllocError>
+    ensures { IfOk result (λ said. string_bytes said ≡ quote_text (Some line)) }
+{
     let mut said = String::from_str(alloc, "; the quote in line ")?;
-    said.push_str(itoa::Buffer::new().format(line + line_feeds(&text[..at])))?;
+    put_number(&mut said, line)?;
     said.push_str(" is not closed")?;
     Ok(said)
+}
+
+/// Puts a number.
+fn put_number(said: &mut String, number: u64) -> Result<(), AllocError>
+    ensures { IfOk result (λ _. string_bytes said.new ≡ string_bytes said.old ++ decimal number) }
+{
+    said.push_str(itoa::Buffer::new().format(number))
 }

@@ -1,11 +1,12 @@
 //! The groups of a source, batch by batch.
 
-ghost use Rattle.std.specs.Prelude.{◌≡◌, ◌≤◌, ◌+◌, ◌^◌, ◌++◌, ◌∷◌, ◌⊎◌, [], ℕ, List, Option, IfErr, IfOk, false, true};
+ghost use Rattle.std.specs.Prelude.{◌≡◌, ◌<◌, ◌≤◌, ◌+◌, ◌^◌, ◌++◌, ◌∷◌, ◌⊎◌, [], ℕ, List, Option, IfErr, IfOk, false, length, true};
 ghost use Rattle.csv_rows.specs.Records.{record_at};
 ghost use Rattle.par_io.specs.Faults.{Rose};
 ghost use Rattle.row_blocks.specs.Blocks.{Table};
 ghost use Rattle.text_lines.specs.Feeds.{count_feeds};
-ghost use Rattle.par_stream.specs.Reading.{AreGroupsOver, BeginsOrNone, HasHeader, HasPart, HasRows, IsBound, IsStream, Reaches};
+ghost use Rattle.par_stream.specs.Begins.{IsLined};
+ghost use Rattle.par_stream.specs.Reading.{AreGroupsOver, HasHeader, HasPart, HasRows, IsBound, IsStream, Reaches};
 ghost use Rattle.split_run.specs.Pieces.{piece_records};
 ghost use Rattle.par_stream.specs.Stops.{Tells};
 ghost use Rattle.par_stream.specs.declared.stop.Stop.TheVariants as stop;
@@ -26,7 +27,7 @@ use std::alloc::Global;
 use std::sync::Wait;
 use std::thread::Threads;
 
-/// The maps of the participants, which share all rows, and the plan over the columns of the header.
+/// What was gathered of all rows, and the plan over the columns of the header.
 #[derive(Drop)]
 pub(crate) struct ReadGroups {
     pub(crate) bound: BoundPlan,
@@ -89,11 +90,11 @@ fn so_far(bytes: u64, added: &Added) -> SoFar {
 fn open(alloc: Global, plan: &Plan, bound: &BoundPlan, first: First) -> Result<Stream, Stop>
     requires header { HasHeader first.header first.window first.is_last }
     requires bound { IsBound plan.now (record_at first.header 0) bound.now }
-    requires begins { BeginsOrNone first.window }
+    requires lined { IsLined first.window }
     requires few { first.feeds ≤ 2 ^ 60 }
     ensures stream { IfOk result (IsStream plan.now bound.now) }
     ensures rows { IfOk result (λ s. (from left : Option (List ℕ)) → Reaches from left (piece_records first.window) (first.feeds + count_feeds first.window.lines) first.window.rest first.is_last
-        → HasPart from (record_at first.header 0 ∷ []) first.feeds (first.window ∷ []) → HasRows bound.now from left s []) }
+        → (0 < length first.window.lines → HasPart from left (record_at first.header 0 ∷ []) first.feeds (first.window ∷ []) first.window.rest) → HasRows bound.now from left s []) }
     ensures why { IfErr result (λ why. why ≡ stop.Memory) }
 {
     let _of = bound;

@@ -5,8 +5,8 @@ ghost use Rattle.csv_rows.specs.Records.{record_at};
 ghost use Rattle.par_model.specs.Named.{names_of};
 ghost use Rattle.shown_text.specs.Header.{missing_text};
 ghost use Rattle.par_model.specs.Columns.{HasColumns};
-ghost use Rattle.par_stream.specs.Begins.{feeds_of};
-ghost use Rattle.par_stream.specs.Reading.{BeginsOrNone, IsBound};
+ghost use Rattle.par_stream.specs.Begins.{IsLined, feeds_of, piece_at};
+ghost use Rattle.par_stream.specs.Reading.{IsBound};
 ghost use Rattle.par_stream.specs.Stops.{IsRefusedRow, Restates, SaysOfHeader, SaysOfRow};
 ghost use Rattle.par_stream.specs.Twice.{SaysTwice, twice_of};
 ghost use Rattle.par_stream.specs.declared.stop.Stop.TheVariants as stop;
@@ -52,7 +52,7 @@ pub(crate) fn stop_of_block(
     answer: BlockAnswer,
 ) -> Stop
     requires pieces { length pieces.now ≤ 64 }
-    requires lines { All BeginsOrNone pieces.now }
+    requires lines { All IsLined pieces.now }
     requires few { feeds + feeds_of pieces.now ≤ 2 ^ 60 }
     ensures { Restates plan.now.plan bound.now pieces.now before feeds answer result }
 {
@@ -79,7 +79,10 @@ fn bind_once(alloc: Global, bound: &BoundPlan, header: &Record<'_>) -> Result<()
 {
     match find_twice(bound, header) {
         None => Ok(()),
-        Some(twice) => Err(Stop::TwiceColumn(twice_text(alloc, header, twice)?)),
+        Some(twice) => {
+            let said = twice_text(alloc, header, twice)?;
+            Err(Stop::TwiceColumn(said))
+        }
     }
 }
 
@@ -108,7 +111,7 @@ fn stop_of_row(
     why: Refusal,
 ) -> Stop
     requires pieces { length pieces.now ≤ 64 }
-    requires lines { All BeginsOrNone pieces.now }
+    requires lines { All IsLined pieces.now }
     requires few { feeds + feeds_of pieces.now ≤ 2 ^ 60 }
     ensures { IsRefusedRow plan.now.plan bound.now pieces.now number row feeds why result ⊎ (result ≡ stop.Memory) }
 {
@@ -136,7 +139,7 @@ fn says_of_row(
     why: Refusal,
 ) -> Result<RowSaid, AllocError>
     requires pieces { length pieces.now ≤ 64 }
-    requires lines { All BeginsOrNone pieces.now }
+    requires lines { All IsLined pieces.now }
     requires few { feeds + feeds_of pieces.now ≤ 2 ^ 60 }
     ensures { IfOk result (λ said. SaysOfRow plan.now.plan bound.now pieces.now row feeds why said.line (string_bytes said.text)) }
 {
@@ -144,16 +147,22 @@ fn says_of_row(
     let header = found.store.find(0);
     let fields = found.store.find(found.at);
     let mut text = row_says(alloc, plan, bound, &header, &fields, why)?;
-    let place = place_in_lines(
-        alloc,
-        pieces[found.piece].lines(),
-        found.at - 1,
-        found.at == found.store.count(),
-        feeds + found.feeds,
-    )?;
+    let lines = lines_at(pieces, found.piece);
+    let count = found.store.count();
+    let is_last = found.at == count;
+    let feeds = feeds + found.feeds;
+    let place = place_in_lines(alloc, lines, found.at - 1, is_last, feeds)?;
     text.push_str(place.quote.as_str())?;
     Ok(RowSaid {
         line: place.line,
         text,
     })
+}
+
+/// The lines of the window of this number.
+fn lines_at(pieces: &[Window], at: usize) -> &[u8]
+    requires { at < length pieces.now }
+    ensures { result.now ≡ (piece_at pieces.now at).lines }
+{
+    pieces[at].lines()
 }

@@ -1,11 +1,11 @@
 //! A column of the plan that the header has twice.
 
-ghost use Rattle.std.specs.Prelude.{◌≡◌, ◌<◌, ◌+◌, ◌++◌, [], IfOk, decimal, get_or, length, string_bytes};
-ghost use Rattle.par_model.specs.Columns.{HasColumns};
-ghost use Rattle.par_stream.specs.Twice.{filter_columns, first_twice, item_columns, later_same, twice_of, twice_text};
+ghost use Rattle.std.specs.Prelude.{◌≡◌, ◌<◌, ◌+◌, ◌++◌, [], IfOk, IfSome, IsTrue, decimal, get_or, length, string_bytes};
+ghost use Rattle.par_model.specs.Columns.{HasColumns, reads_column};
+ghost use Rattle.par_stream.specs.Twice.{filter_twice, first_some, group_twice, item_same, item_twice, later_same, twice_of, twice_text};
 
 use csv_rows::Record;
-use par_model::{BoundPlan, ItemKind};
+use par_model::{BoundPlan, Item, ItemKind};
 use shown_text::put_shown;
 use std::alloc::{AllocError, Global};
 
@@ -20,43 +20,75 @@ pub(crate) struct Twice {
 /// and the filters. In time linear in the header for each column.
 pub(crate) fn find_twice(bound: &BoundPlan, header: &Record<'_>) -> Option<Twice>
     requires { HasColumns bound.now (length header.now) }
-    ensures { result ≡ twice_of bound.now header.now }
+    ensures is { result ≡ twice_of bound.now header.now }
+    ensures within { IfSome result (λ twice. twice.first < length header.now) }
 {
-    for at in 0..bound.group_columns().len() {
-        if let Some(twice) = twice_at(header, bound.group_columns()[at]) {
-            return Some(twice);
-        }
+    match group_twice(bound, header) {
+        Some(twice) => return Some(twice),
+        None => {}
     }
-    if let Some(twice) = item_twice(bound, header) {
-        return Some(twice);
+    match item_twice(bound, header) {
+        Some(twice) => return Some(twice),
+        None => {}
     }
     filter_twice(bound, header)
 }
 
-/// The same among the columns of the aggregates.
-fn item_twice(bound: &BoundPlan, header: &Record<'_>) -> Option<Twice>
+/// The same among the columns to group by.
+fn group_twice(bound: &BoundPlan, header: &Record<'_>) -> Option<Twice>
     requires { HasColumns bound.now (length header.now) }
-    ensures { result ≡ first_twice header.now (item_columns bound.now) }
+    ensures is { result ≡ first_some (group_twice bound.now header.now) }
+    ensures within { IfSome result (λ twice. twice.first < length header.now) }
 {
-    for at in 0..bound.items().len() {
-        let item = bound.items()[at];
-        if item.kind != ItemKind::Rows {
-            if let Some(twice) = twice_at(header, item.column) {
-                return Some(twice);
-            }
+    let columns = bound.group_columns();
+    for at in 0..columns.len() {
+        match twice_at(header, columns[at]) {
+            Some(twice) => return Some(twice),
+            None => {}
         }
     }
     None
 }
 
+/// The same among the columns of the aggregates.
+fn item_twice(bound: &BoundPlan, header: &Record<'_>) -> Option<Twice>
+    requires { HasColumns bound.now (length header.now) }
+    ensures is { result ≡ first_some (item_twice bound.now header.now) }
+    ensures within { IfSome result (λ twice. twice.first < length header.now) }
+{
+    let items = bound.items();
+    for at in 0..items.len() {
+        match twice_of_item(header, items[at]) {
+            Some(twice) => return Some(twice),
+            None => {}
+        }
+    }
+    None
+}
+
+/// The column of an aggregate and the next one with the same name, if it reads one and there is one.
+fn twice_of_item(header: &Record<'_>, item: Item) -> Option<Twice>
+    requires { IsTrue (reads_column item.kind) → item.column < length header.now }
+    ensures is { result ≡ item_same header.now item }
+    ensures within { IfSome result (λ twice. twice.first < length header.now) }
+{
+    if item.kind == ItemKind::Rows {
+        return None;
+    }
+    twice_at(header, item.column)
+}
+
 /// The same among the columns of the filters.
 fn filter_twice(bound: &BoundPlan, header: &Record<'_>) -> Option<Twice>
     requires { HasColumns bound.now (length header.now) }
-    ensures { result ≡ first_twice header.now (filter_columns bound.now) }
+    ensures is { result ≡ first_some (filter_twice bound.now header.now) }
+    ensures within { IfSome result (λ twice. twice.first < length header.now) }
 {
-    for at in 0..bound.filters().len() {
-        if let Some(twice) = twice_at(header, bound.filters()[at].column) {
-            return Some(twice);
+    let filters = bound.filters();
+    for at in 0..filters.len() {
+        match twice_at(header, filters[at].column) {
+            Some(twice) => return Some(twice),
+            None => {}
         }
     }
     None
@@ -65,11 +97,13 @@ fn filter_twice(bound: &BoundPlan, header: &Record<'_>) -> Option<Twice>
 /// A column of a header and the next one with the same name, if there is one.
 fn twice_at(header: &Record<'_>, column: u32) -> Option<Twice>
     requires { column < length header.now }
-    ensures { result ≡ later_same header.now column }
+    ensures is { result ≡ later_same header.now column }
+    ensures within { IfSome result (λ twice. twice.first < length header.now) }
 {
     let name = header.field(column);
-    for at in column + 1..header.width() {
-        if header.field(at) == name {
+    let width = header.width();
+    for at in column + 1..width {
+        if name == header.field(at) {
             return Some(Twice {
                 first: column,
                 second: at,
@@ -85,8 +119,7 @@ pub(crate) fn twice_text(
     header: &Record<'_>,
     twice: Twice,
 ) -> Result<String, AllocError>
-    requires first { twice.first < length header.now }
-    requires second { twice.second < length header.now }
+    requires { twice.first < length header.now }
     ensures { IfOk result (λ said. string_bytes said ≡ twice_text (get_or header.now twice.first []) twice) }
 {
     let mut said = String::from_str(alloc, "the header has column ")?;

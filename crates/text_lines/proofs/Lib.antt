@@ -1,2 +1,5 @@
-mod Counts
-mod Parts
+pub mod Counts
+pub mod Parts
+pub mod Ends
+pub mod Openings
+pub mod Outside

@@ -24,7 +24,7 @@ outside xs cut = λ quoted.
     cc bad
 
 -- outside quotes, the end of a line is where a record may begin
-after_line : (p : Place) (c : ℕ) (b : List ℕ) → p ≢ place.Quoted → is_line_end c ≡ true → place_after p (c ∷ b) ≡ place_after place.Opens (c ∷ b)
+pub after_line : (p : Place) (c : ℕ) (b : List ℕ) → p ≢ place.Quoted → is_line_end c ≡ true → place_after p (c ∷ b) ≡ place_after place.Opens (c ∷ b)
 unfolding place_after
 after_line place.Quoted c b apart line = absurd (apart refl)
 after_line place.Opens c b apart line = refl
@@ -41,7 +41,7 @@ strip_longer a (c ∷ b) line = elim (cases_Bool (c == 10)) [
   | inr e ↦ rw (not-feed c e line.is) (strip-return a b)
 ]
 
-no_mark : (b : List ℕ) → BeginsLine b → strip_bom b ≡ b
+pub no_mark : (b : List ℕ) → BeginsLine b → strip_bom b ≡ b
 no_mark b line = strip_longer [] b line
 
 -- two texts that end outside quotes, of which the second begins with the end of a line
@@ -52,6 +52,15 @@ cut_append a (c ∷ b) cut line more =
     let back : place_after place.Opens (c ∷ b) ≢ place.Quoted = outside (c ∷ b) (ap ends_quoted (sym (no_mark (c ∷ b) line)) ∙ more) in
     let all : place_after place.Opens (strip_bom a ++ (c ∷ b)) ≡ place_after place.Opens (c ∷ b) = place-append place.Opens (strip_bom a) (c ∷ b) ∙ after_line front c b (outside (strip_bom a) cut) line.is in
     ap ends_quoted (strip_longer a (c ∷ b) line) ∙ scan-cut (strip_bom a ++ (c ∷ b)) (λ quoted. back (sym all ∙ quoted))
+
+-- and the other way round: the second does if both do
+pub cut_back : (a b : List ℕ) → IsCut a → BeginsLine b → IsCut (a ++ b) → IsCut b
+cut_back a [] cut line whole = absurd (omega (arith, line.some))
+cut_back a (c ∷ b) cut line whole =
+    let front = place_after place.Opens (strip_bom a) in
+    let all : place_after place.Opens (strip_bom a ++ (c ∷ b)) ≡ place_after place.Opens (c ∷ b) = place-append place.Opens (strip_bom a) (c ∷ b) ∙ after_line front c b (outside (strip_bom a) cut) line.is in
+    let outer : place_after place.Opens (strip_bom a ++ (c ∷ b)) ≢ place.Quoted = outside (strip_bom a ++ (c ∷ b)) (ap ends_quoted (sym (strip_longer a (c ∷ b) line)) ∙ whole) in
+    ap ends_quoted (no_mark (c ∷ b) line) ∙ scan-cut (c ∷ b) (λ quoted. outer (all ∙ quoted))
 
 -- and the records of both
 pub records_append : (a b : List ℕ) → IsCut a → BeginsLine b → length (records_of (a ++ b)) ≡ length (records_of a) + length (records_of b)

@@ -21,6 +21,6 @@ pub record BeginsAt (text : List ℕ) (before at : ℕ) : Type 0 where
   pub end : ℕ
   pub ends : EndsBefore text before end
   pub low : end ≤ at
-  pub high : at ≤ length text
+  pub within : at < length text
   pub between : AllEndFrom text end at
   pub other : is_line_end (slice_index text at) ≡ false

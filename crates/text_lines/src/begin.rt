@@ -41,11 +41,12 @@ pub fn past_ends(bytes: &[u8], from: usize) -> usize
     ensures ends { AllEndFrom bytes.now from result }
     ensures other { is_line_end (slice_index bytes.now result) ≡ false }
 {
-    let mut at = from;
-    'ends: while at < bytes.len() && ends_line(bytes[at]) {
-        at += 1;
+    'ends: for at in from..bytes.len() {
+        if !ends_line(bytes[at]) {
+            return at;
+        }
     }
-    at
+    bytes.len()
 }
 
 /// Whether a byte ends a line.

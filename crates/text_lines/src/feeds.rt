@@ -16,10 +16,12 @@ pub fn line_feeds(bytes: &[u8]) -> u64
     let mut count = 0u64;
     let mut at = 0;
     'stretches: while bytes.len() - at >= STRETCH {
-        count += few_feeds(&bytes[at..at + STRETCH]) as u64;
+        let more = few_feeds(&bytes[at..at + STRETCH]);
+        count += more as u64;
         at += STRETCH;
     }
-    count + few_feeds(&bytes[at..]) as u64
+    let last = few_feeds(&bytes[at..]);
+    count + last as u64
 }
 
 /// How many line feeds are among a few bytes.

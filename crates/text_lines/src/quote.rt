@@ -1,9 +1,9 @@
 //! A quote that is not closed.
 
-ghost use Rattle.std.specs.Prelude.{◌≡◌, ◌≢◌, ◌<◌, ◌≤◌, IfSome, None, length, take, true};
+ghost use Rattle.std.specs.Prelude.{◌≡◌, ◌≢◌, ◌<◌, ◌+◌, IfSome, None, length, slice_index, take};
 ghost use Rattle.csv_rows.specs.Places.{place_after};
 ghost use Rattle.csv_rows.specs.declared.place.Place.TheVariants as place;
-ghost use Rattle.text_lines.specs.Quotes.{IsOpenQuote, opens_field};
+ghost use Rattle.text_lines.specs.Quotes.{IsLastOpening, IsOpenQuote};
 
 use csv_rows::{Place, past_others, past_quote};
 use memchr::memchr;
@@ -18,25 +18,36 @@ pub fn open_quote(text: &[u8]) -> Option<usize>
     let mut last = None;
     let mut at = 0;
     'quotes: while let Some(count) = memchr(b'"', &text[at..]) {
-        let quote = at + count;
-        place = past_others(&text[at..quote], place);
-        if opens_field(text, quote, place) {
-            last = Some(quote);
-        }
+        place = past_others(&text[at..at + count], place);
+        last = later_opening(text, at + count, place, last);
         place = past_quote(place);
-        at = quote + 1;
+        at += count + 1;
     }
-    if past_others(&text[at..], place) == Place::Quoted {
-        last
-    } else {
-        None
+    let end = past_others(&text[at..], place);
+    if end != Place::Quoted {
+        return None;
     }
+    last
 }
 
-/// Whether a quote here would begin the text of a field: no other quote is right before it.
-fn opens_field(text: &[u8], at: usize, place: Place) -> bool
-    requires { at < length text.now }
-    ensures { result ≡ opens_field text.now at place }
+/// The last place up to a quote at which the text of a field in quotes begins, by the last one before that quote, which a
+/// scan has reached so. It begins here if no other quote is right before it.
+fn later_opening(text: &[u8], quote: usize, here: Place, last: Option<usize>) -> Option<usize>
+    requires within { quote < length text.now }
+    requires quote { slice_index text.now quote ≡ 34 }
+    requires here { here ≡ place_after place.Opens (take quote text.now) }
+    requires last { IsLastOpening text.now quote last }
+    ensures { IsLastOpening text.now (quote + 1) result }
 {
-    place == Place::Opens && (at == 0 || text[at - 1] != b'"')
+    if here != Place::Opens {
+        return last;
+    }
+    if quote == 0 {
+        return Some(quote);
+    }
+    let before = text[quote - 1];
+    if before == b'"' {
+        return last;
+    }
+    Some(quote)
 }

@@ -1,47 +1,64 @@
-use Rattle.std.proofs.Common.{◌≡◌, ◌<◌, ◌+◌, ◌^◌, ◌∙◌, List, ap, arith, length, length-append, min, subst, sym}
-use Rattle.std.specs.Global.{Vec}
-use Rattle.partial_agg.specs.Groups.{GroupsByKey}
+use Rattle.std.proofs.Common.{◌≡◌, ◌<◌, ◌≤◌, ◌+◌, ◌^◌, ◌∙◌, All, List, ap, arith, length, length-append, min, subst, sym}
 use Rattle.row_windows.specs.Stretch.{Stretch}
-use Rattle.gather_law.specs.Shares.{AreShared}
 use Rattle.split_run.specs.Causes.{IsFirstOfAll}
 use Rattle.split_run.specs.Hands.{most}
-use Rattle.split_run.specs.Pieces.{HaveColumns, SharesPieces, rows_of}
+use Rattle.split_run.specs.Pieces.{HaveColumns, rows_of}
+use Rattle.par_stream.specs.Begins.{IsLined, feeds_of}
+use Rattle.par_stream.specs.Gathered.{HasGathered, TakesRows, participants_of}
 use Rattle.par_stream.specs.Stops.{Restates}
+use Rattle.par_stream.specs.declared.gathered.Gathered.{Gathered}
+use Rattle.par_stream.proofs.Gathered.{gathered_accepted}
 use Rattle.par_stream.proofs.Refusals.{refused_tells}
 use Rattle.par_stream.proofs.adding.add_batch.Goals as goal
 
-pub add_pieces-requires-clause-columns : goal.add_pieces-requires-clause-columns
-add_pieces-requires-clause-columns g c κs within = subst (λ (ws : List Stretch). HaveColumns c.args.bound.now ws) (sym c.as_slice-pieces.ensures.value) c.requires.columns
+pub add_rows-requires-clause-columns : goal.add_rows-requires-clause-columns
+add_rows-requires-clause-columns g c κs within = subst (λ (ws : List Stretch). HaveColumns c.args.bound.now ws) (sym c.as_slice-pieces.ensures.value) c.requires.columns
 
-pub add_pieces-requires-clause-few : goal.add_pieces-requires-clause-few
-add_pieces-requires-clause-few g c κs within = omega (arith, c.requires.maps, c.workers-workers.ensures.within, ap (λ (v : Vec GroupsByKey). length v.items) c.replace-olds.ensures.value)
+pub add_rows-requires-clause-some : goal.add_rows-requires-clause-some
+add_rows-requires-clause-some g c κs within = omega (arith, c.requires.many, ap (λ (x : Gathered). participants_of x) c.replace-old.ensures.value)
+
+pub add_rows-requires-clause-few : goal.add_rows-requires-clause-few
+add_rows-requires-clause-few g c κs within = omega (arith, c.requires.many, c.workers-workers.ensures.within, ap (λ (x : Gathered). participants_of x) c.replace-old.ensures.value)
+
+-- ---- the reason, by the pieces of the batch
+
+pub stop_of_block-stop-requires-clause-lines : goal.stop_of_block-stop-requires-clause-lines
+stop_of_block-stop-requires-clause-lines g c = subst (All IsLined) (sym c.as_slice-pieces.ensures.value) c.requires.lines
+
+pub stop_of_block-stop-requires-clause-few : goal.stop_of_block-stop-requires-clause-few
+stop_of_block-stop-requires-clause-few g c = subst (λ (ws : List Stretch). c.args.batch.now.before + feeds_of ws ≤ 2 ^ 60) (sym c.as_slice-pieces.ensures.value) c.requires.feeds
 
 pub returns-in-Err-clause-why : goal.returns-in-Err-clause-why
 returns-in-Err-clause-why g c =
     let query = c.args.plan.now in
     let bound = c.args.bound.now in
-    let pieces = c.args.batch.now.pieces.items in
-    let cause : IsFirstOfAll bound pieces c.in-Err.why = subst (λ (ws : List Stretch). IsFirstOfAll bound ws c.in-Err.why) c.as_slice-pieces.ensures.value c.in-Err.ensures.cause in
-    λ from header rows is under has begins.
-    let restated : Restates query.plan bound pieces c.args.added.now.count c.in-Err.why c.stop_of_block.result = subst (λ (ws : List Stretch). Restates query.plan bound ws c.args.added.now.count c.in-Err.why c.stop_of_block.result) c.as_slice-pieces.ensures.value c.stop_of_block.ensures in
-    refused_tells query header bound is from c.args.added.now.count rows pieces c.in-Err.why c.stop_of_block.result has.count c.requires.few c.in-Err.ensures.low begins has.shared.accepted under (cause header under) restated
+    let batch = c.args.batch.now in
+    let pieces = batch.pieces.items in
+    let same = c.as_slice-pieces.ensures.value in
+    let said = c.stop_of_block-stop.result in
+    let cause : IsFirstOfAll bound pieces c.in-Err.why = subst (λ (ws : List Stretch). IsFirstOfAll bound ws c.in-Err.why) same c.in-Err.ensures.cause in
+    let restated : Restates query.plan bound pieces c.args.added.now.count batch.before c.in-Err.why said =
+    subst (λ (ws : List Stretch). Restates query.plan bound ws c.args.added.now.count batch.before c.in-Err.why said) same c.stop_of_block-stop.ensures in
+    λ from left header rows is under has begins part.
+    refused_tells query header bound is from left c.args.added.now.count rows batch.before pieces batch.next.rest c.in-Err.why said has.count c.requires.few c.in-Err.ensures.low begins part c.requires.lines
+    (gathered_accepted bound (length header) rows c.args.added.now.gathered has.gathered) under (cause header under) restated
 
 pub returns-clause-added : goal.returns-clause-added
 returns-clause-added g c =
     let bound = c.args.bound.now in
     let pieces = c.args.batch.now.pieces.items in
-    let olds = c.replace-olds.result.items in
-    let taken = c.replace-olds.ensures.value in
+    let old = c.replace-old.result in
+    let taken = c.replace-old.ensures.value in
     let done = c.in-Ok.done in
     let same = c.as_slice-pieces.ensures.value in
     let more : done.1 ≡ min (length (rows_of pieces)) most = subst (λ (ws : List Stretch). done.1 ≡ min (length (rows_of ws)) most) same c.in-Ok.ensures.count in
-    let shares : SharesPieces bound pieces olds done.0.items = subst (λ (ws : List Stretch). SharesPieces bound ws olds done.0.items) same c.in-Ok.ensures.shared in
+    let takes : TakesRows bound pieces old done.0 = subst (λ (ws : List Stretch). TakesRows bound ws old done.0) same c.in-Ok.ensures.rows in
     let sum = c.saturating_add-added.ensures in
     record {
       rows = λ header rows under has.
-          let before : AreShared bound (length header) rows olds = subst (λ (v : Vec GroupsByKey). AreShared bound (length header) rows v.items) (sym taken) has.shared in
+          let before : HasGathered bound (length header) rows old = subst (HasGathered bound (length header) rows) (sym taken) has.gathered in
           let few : length rows + length (rows_of pieces) < 2 ^ 64 = omega (arith, has.count, c.requires.few, more, sum) in
-          record { count = omega (arith, has.count, length-append rows (rows_of pieces), more, sum); shared = shares header rows under before few };
-      many = c.in-Ok.ensures.many ∙ ap (λ (v : Vec GroupsByKey). length v.items) taken;
+          record { count = omega (arith, has.count, length-append rows (rows_of pieces), more, sum); gathered = takes header rows under before few };
+      many = c.in-Ok.ensures.many ∙ ap (λ (x : Gathered). participants_of x) taken;
       few = omega (arith, sum);
     }

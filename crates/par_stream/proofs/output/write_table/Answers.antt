@@ -9,11 +9,11 @@ use Rattle.par_stream.specs.declared.stop.Stop.TheVariants as stop
 use Rattle.par_stream.proofs.Tables.{IfErr-each, part_written, table_written}
 use Rattle.par_stream.proofs.output.write_table.Goals as goal
 
-pub table_text-requires-clause-bound : goal.table_text-requires-clause-bound
-table_text-requires-clause-bound g c κs within = let over = c.requires.1 in record { header = over.header; is = over.bound.is }
+pub text_of-requires-clause-bound : goal.text_of-requires-clause-bound
+text_of-requires-clause-bound g c κs within = let over = c.requires.1 in record { header = over.header; is = over.bound.is }
 
-pub table_text-requires-clause-rows : goal.table_text-requires-clause-rows
-table_text-requires-clause-rows g c κs within = let over = c.requires.1 in (length over.header, over.rows, over.few, over.shared)
+pub text_of-requires-clause-rows : goal.text_of-requires-clause-rows
+text_of-requires-clause-rows g c κs within = let over = c.requires.1 in (length over.header, over.rows, over.few, over.gathered)
 
 pub returns-in_err-write_each-clause-part : goal.returns-in_err-write_each-clause-part
 returns-in_err-write_each-clause-part g c =

@@ -3,7 +3,7 @@ use Rattle.row_blocks.specs.Blocks.{Table}
 use Rattle.par_stream.specs.Reading.{HasRows, IsStream}
 use Rattle.par_stream.proofs.reading.read_groups.Given as goal
 
--- the maps have the rows so far
+-- the rows so far were added
 abbrev pub invariant-loop : goal.invariant-loop
 invariant-loop g l = record {
   can_next : (goal.iterator-loop g).can_next l.iterator';
