@@ -1,8 +1,8 @@
 -- Every reason to stop has one of the statuses that there are, and what is left of the reasons without a fault.
-use Rattle.std.proofs.Common.{◌≡◌, ◌≢◌, ◌≤◌, ◌+◌, ◌⊎◌, inl, ℕ, List, length, Option, None, Some, IfSome, IsNone, Contains, refl, sym, subst, ap, ◌∙◌, arith}
+use Rattle.std.proofs.Common.{◌≡◌, ◌≢◌, ◌≤◌, ◌+◌, ◌⊎◌, inl, inr, ℕ, List, length, Option, None, Some, IfSome, IsNone, Contains, refl, sym, subst, ap, ◌∙◌, arith}
 use Rattle.std.proofs.lemmas.List.{length-append}
 use Rattle.par_io.specs.Reads.{ReadsCount}
-use Rattle.par_shell.specs.declared.status.TheConstants.{ANSWERED, NO_MEMORY, TOO_LARGE}
+use Rattle.par_shell.specs.declared.status.TheConstants.{ANSWERED, MISUSED, NO_MEMORY, READ_FAULT, TOO_LARGE}
 use Rattle.par_shell.specs.Scripts.{statuses}
 use Rattle.par_shell.specs.Stops.{status_of}
 use Rattle.par_shell.specs.declared.stop.Stop.{Stop}
@@ -49,3 +49,15 @@ is-long ReadFault n e t = absurd (omega (arith, e, t))
 is-long WriteFault n e t = absurd (omega (arith, e, t))
 is-long Memory n e t = absurd (omega (arith, e, t))
 is-long TooLong n e t = refl
+
+-- the statuses of wrong words, of a read that failed and of a script above the limit are those of these reasons
+pub one-of : (w : Stop) (n : ℕ) (A : Type 0) → n ≡ status_of w → (w ≡ Usage → A) → (w ≡ ReadFault → A) → (w ≡ TooLong → A) → (n ≡ MISUSED) ⊎ ((n ≡ READ_FAULT) ⊎ (n ≡ TOO_LARGE)) → A
+one-of Usage n A e usage read long t = usage refl
+one-of ReadFault n A e usage read long t = read refl
+one-of TooLong n A e usage read long t = long refl
+one-of WriteFault n A e usage read long (inl t) = absurd (omega (arith, e, t))
+one-of WriteFault n A e usage read long (inr (inl t)) = absurd (omega (arith, e, t))
+one-of WriteFault n A e usage read long (inr (inr t)) = absurd (omega (arith, e, t))
+one-of Memory n A e usage read long (inl t) = absurd (omega (arith, e, t))
+one-of Memory n A e usage read long (inr (inl t)) = absurd (omega (arith, e, t))
+one-of Memory n A e usage read long (inr (inr t)) = absurd (omega (arith, e, t))

@@ -1,7 +1,7 @@
-use Rattle.std.proofs.Common.{◌≡◌, refl}
+use Rattle.std.proofs.Common.{◌≡◌, inl, inr, refl}
 use Rattle.par_shell.specs.Scripts.{pages_in, texts}
 use Rattle.par_shell.specs.declared.stop.Stop.TheVariants.{TooLong}
-use Rattle.par_shell.proofs.StopLaws.{if-some, is-long, is-memory, is-status, none-is}
+use Rattle.par_shell.proofs.StopLaws.{if-some, is-long, is-memory, is-status, none-is, one-of}
 use Rattle.par_shell.proofs.run.parsh.Goals as goal
 
 pub returns-in-Ok-clause-answered : goal.returns-in-Ok-clause-answered
@@ -25,3 +25,11 @@ pub returns-in-Err-clause-too_large : goal.returns-in-Err-clause-too_large
 returns-in-Err-clause-too_large g c = λ t.
     let e : c.in-Err.stop ≡ TooLong = is-long c.in-Err.stop c.end.result c.end.ensures.status t in
     c.in-Err.ensures.too_long (cc e)
+
+pub returns-in-Err-clause-nothing : goal.returns-in-Err-clause-nothing
+returns-in-Err-clause-nothing g c = λ t.
+    one-of c.in-Err.stop c.end.result _ c.end.ensures.status
+    (λ e. c.in-Err.ensures.nothing (inl (cc e)))
+    (λ e. c.in-Err.ensures.nothing (inr (inl (cc e))))
+    (λ e. c.in-Err.ensures.nothing (inr (inr (cc e))))
+    t
