@@ -36,7 +36,7 @@ use Rattle.rel_pointer.specs.Bytes.{AllBytes}
 use Rattle.scan_claim.specs.Drawing.{below, flat, once_below, times}
 use Rattle.agg_law.specs.Law.{IsTabled, Share, TableGathers}
 use Rattle.agg_law.proofs.Calls.{called_are, stands_combined}
-use Rattle.agg_law.proofs.PutAndLeft.{all_accepted, apart, blocks_stand, groups_in_blocks, left_and_put}
+use Rattle.agg_law.proofs.PutAndLeft.{all_accepted, all_groups, apart, left_and_put, shares_stand}
 use Rattle.agg_law.proofs.States.{gathered_states, groups_in-states, states-other}
 
 -- ---- lists
@@ -154,10 +154,10 @@ module _ (plan : Plan) (width : ℕ) (items_few : length plan.items ≤ 8) where
       let size : length everything ≡ length rows_drawn = length_permutation rows_drawn everything rows in
       let short : length everything ≤ length records = grind (arith, length-drop) in
       let accepted = all_accepted plan width records draws shares is.shared in
-      let stand = blocks_stand plan width records drawn accepted (omega (arith, size, short, few)) in
-      let blocks = groups_in_blocks plan width records drawn in
-      let order : IsPermutation blocks (left ++ put) = subst (λ l. IsPermutation blocks (left ++ l)) (sym (puts_flat shares)) (left_and_put plan width records draws shares left is.shared is.all_left) in
-      let paired = goes_along (StandsFor plan) blocks (left ++ put) (kept rows_drawn) order stand in
+      let stand = shares_stand plan width records draws shares is.shared (omega (arith, size, short, few)) in
+      let all_of = all_groups shares in
+      let order : IsPermutation all_of (left ++ put) = subst (λ l. IsPermutation all_of (left ++ l)) (sym (puts_flat shares)) (left_and_put shares left is.all_left) in
+      let paired = goes_along (StandsFor plan) all_of (left ++ put) (kept rows_drawn) order stand in
       let parts = apart (StandsFor plan) left put paired.lists paired.each in
       let rows_left = flat_rows parts.first in
       let rows_put = flat_rows parts.second in

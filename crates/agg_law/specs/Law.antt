@@ -1,4 +1,4 @@
--- If the participants put the groups of their blocks into a shared table, or left them, the leader's map, to which what
+-- If the participants put the groups of their rows into a shared table, or left them, the leader's map, to which what
 -- they left and then the table's entries were added, has the groups of one pass over all rows.
 use Rattle.std.specs.Prelude.{◌≡◌, ◌≤◌, ◌<◌, ◌+◌, ◌*◌, ◌^◌, ◌++◌, ℕ, List, All, drop, length, map as map_list}
 use Rattle.std.specs.FinMap as map
@@ -6,9 +6,10 @@ use Rattle.std.specs.List.{AllZip, flat_map}
 use Rattle.std.specs.List.Sorted.{IsPermutation}
 use Rattle.agg_cell.specs.Called.{Seen}
 use Rattle.agg_table.specs.Drained.{AddsTable, HoldsAll}
+use Rattle.gather_law.specs.Law.{AreSent}
 use Rattle.gather_law.specs.Parts.{with_all}
-use Rattle.gather_law.specs.Tuples.{Group, groups_of}
-use Rattle.row_blocks.specs.Blocks.{Table, block_rows, rows_of_blocks}
+use Rattle.gather_law.specs.Tuples.{Group}
+use Rattle.row_blocks.specs.Blocks.{Table}
 use Rattle.par_model.specs.Plan.{Plan}
 use Rattle.partial_agg.specs.Groups.{AreGroups, GroupsByKey}
 use Rattle.partial_agg.specs.Rows.{IsAccepted}
@@ -19,11 +20,10 @@ pub record Share : Type 0 where
   pub put : List Group
   pub left : List Group
 
--- Of the groups of the blocks that a participant drew, each block's for itself, each was put in or left, once; none of
--- the rows is refused
-pub record Shares (plan : Plan) (width : ℕ) (records : Table) (draws : List ℕ) (s : Share) : Type 0 where
-  pub all : IsPermutation (flat_map (λ b. groups_of plan (block_rows records b)) draws) (s.put ++ s.left)
-  pub accepted : All (IsAccepted plan width) (rows_of_blocks records draws)
+-- The rows of the blocks that a participant drew are cut into batches. Of the groups of these, each batch's for itself,
+-- each was put in or left, once; none of the rows is refused
+abbrev pub Shares : Plan → ℕ → Table → List ℕ → Share → Type 0
+Shares plan width records draws s = AreSent plan width records draws (s.put ++ s.left)
 
 -- What all participants did with their draws, and the leader with its map. The table has what each of them put in, and
 -- no more. The map had what they left, in any order, and then the table's entries were added: so it became `last`

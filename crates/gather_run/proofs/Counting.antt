@@ -1,5 +1,5 @@
 -- Facts of plain numbers and lists that longer proofs cite: a search here reads nothing but what it needs.
-use Rattle.std.proofs.Common.{◌≡◌, ◌<◌, ◌≤◌, ◌+◌, ◌-◌, ◌*◌, ◌^◌, ℕ, suc, true, false, List, [], ◌∷◌, Some, None, slice_get, min, arith}
+use Rattle.std.proofs.Common.{◌≡◌, ◌<◌, ◌≤◌, ◌+◌, ◌-◌, ◌*◌, ◌^◌, ℕ, suc, true, false, List, [], ◌∷◌, Some, None, slice_get, arith}
 
 pub no_first : {A : Type 0} (x : A) (xs : List A) → x ∷ xs ≡ [] → ⊥
 no_first x xs e = cc
@@ -38,8 +38,14 @@ as_many_left m n e = omega arith
 
 -- ---- bounds
 
-pub few_of_block : (n m : ℕ) → n ≡ min 256 m → 0 + n < 2 ^ 64
-few_of_block n m e = omega arith
+pub few_more : (n : ℕ) → n < 2 ^ 63 → 0 + n < 2 ^ 64
+few_more n h = omega arith
+
+pub few_in_sum : (a b c : ℕ) → c ≡ a + b → c < 2 ^ 63 → a < 2 ^ 63
+few_in_sum a b c e few = omega arith
+
+pub few_past_sum : (a b c : ℕ) → c ≡ a + b → c < 2 ^ 63 → b < 2 ^ 63
+few_past_sum a b c e few = omega arith
 
 pub few_records : (n : ℕ) → n ≤ 4194305 → n < 2 ^ 63
 few_records n h = omega arith
@@ -49,6 +55,9 @@ few_workers m n e h = omega arith
 
 pub few_of_draws : (m n : ℕ) → m + n < 2 ^ 50 → n < 2 ^ 50
 few_of_draws m n h = omega arith
+
+pub few_of_own : (m n : ℕ) → m + n < 2 ^ 50 → m < 2 ^ 50
+few_of_own m n h = omega arith
 
 -- a block past the last one was drawn, so all blocks were
 pub covers_all : (len n blocks x y z : ℕ) → 0 < x → z ≡ x + y → z ≡ n - blocks → len ≤ 256 * blocks + 1 → len ≤ 256 * n + 1

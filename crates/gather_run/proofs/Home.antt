@@ -1,5 +1,5 @@
 -- What came home where there is an answer, with a table of groups or without.
-use Rattle.std.proofs.Common.{◌≡◌, ◌<◌, ◌≤◌, ◌+◌, ◌-◌, ◌*◌, ◌++◌, ◌&&◌, leb, ℕ, suc, List, [], ◌∷◌, length, drop, map as map_list, All, IfSome, IsSomeAnd, Option, option_map, is_some, Some, None, refl, ap, sym, subst, ◌∙◌}
+use Rattle.std.proofs.Common.{◌≡◌, ◌<◌, ◌≤◌, ◌+◌, ◌-◌, ◌*◌, ◌^◌, ◌++◌, ◌&&◌, leb, ℕ, suc, List, [], ◌∷◌, length, drop, map as map_list, All, IfSome, IsSomeAnd, Option, option_map, is_some, Some, None, refl, ap, sym, subst, ◌∙◌}
 use Rattle.std.specs.List.{AllZip}
 use Rattle.agg_cell.specs.Called.{Seen}
 use Rattle.agg_cell.specs.Cell.{stepped}
@@ -34,7 +34,7 @@ use Rattle.gather_run.specs.Drained.{AddsAll, SameHistories}
 use Rattle.gather_run.specs.Leading.{HasLed}
 use Rattle.gather_run.specs.Used.{ArePasses, SentItsRows, SharedItsBlocks}
 use Rattle.gather_run.proofs.Participants.{AllShared, AllTookPart, all_shared, holds_all, law_of, part_shared, workers_shared}
-use Rattle.gather_run.proofs.Counting.{covers_all, few_of_draws, few_records, few_workers, not_none, not_true}
+use Rattle.gather_run.proofs.Counting.{covers_all, few_of_draws, few_of_own, few_records, few_workers, not_none, not_true}
 use Rattle.gather_run.proofs.Together.{Plain, Worker, all_drawn, all_gathered, all_sent_rows, few_drawn, plain, spent_is}
 
 -- a table is there exactly where one was made, and shows whole histories
@@ -134,17 +134,17 @@ module _ {A : Type 0} (h : A → Seen) (areas : List AreaPass) where
     tells (Some c) None w same = absurd same
     tells (Some c) (Some d) w same =
         let a = shared_all c w in
-        by a.shares a.took
+        by a.shares a.took (few_drawn (uses_of (Some c)) plan records blocks own lists draws n w.are w.few (few_workers (length ws) (length draws) (as_drawn (Some c) w) w.short) w.lists_are w.drawn)
       where
         turns : (k i : ℕ) → calls_by k (h d i) ≡ calls_by k (h c i)
         turns k i = ap (calls_by k) (same i)
 
-        by : (shares : List Share) → AllTookPart plan records (uses_in c) 0 (own ∷ draws) shares → Tells (Some d)
-        by [] t = absurd t
-        by (s ∷ shares) t = record {
+        by : (shares : List Share) → AllTookPart plan records (uses_in c) 0 (own ∷ draws) shares → length own + length (flat draws) < 2 ^ 50 → Tells (Some d)
+        by [] t few = absurd t
+        by (s ∷ shares) t few = record {
           drawn = all_drawn (uses_of (Some c)) plan records blocks own lists draws n w.are w.lists_are w.drawn w.led.spent;
-          shared_own = part_shared plan records own (uses_in c 0) (uses_in d 0) s (λ i. turns 0 i) refl t.0;
-          shared = workers_shared plan records (uses_in c) (uses_in d) (λ k i. turns k i) (λ k. refl) 1 draws shares ws (as_drawn (Some c) w) t.1 w.numbers;
+          shared_own = part_shared plan records own (uses_in c 0) (uses_in d 0) s (few_of_own (length own) (length (flat draws)) few) (λ i. turns 0 i) refl t.0;
+          shared = workers_shared plan records (uses_in c) (uses_in d) (λ k i. turns k i) (λ k. refl) 1 draws shares ws (few_of_draws (length own) (length (flat draws)) few) (as_drawn (Some c) w) t.1 w.numbers;
           sent = λ e. absurd (not_none d e);
         }
 

@@ -15,8 +15,8 @@ use Rattle.row_blocks.proofs.Permute.{AllZip-join}
 use Rattle.parallel_ctx.specs.Accounts.{Heard, heard, is_over}
 use Rattle.parallel_ctx.specs.Tokens.{SameQueues}
 use Rattle.parallel_ctx.specs.declared.tokens.LeaderEnds.{LeaderEnds}
-use Rattle.gather_run.specs.Leading.{IsLeading, Led}
-use Rattle.gather_run.specs.Looks.{Hears, HearsEnd, HearsOut, IsOverQueue, NamedBy, Takes, tuples_of}
+use Rattle.gather_run.specs.Leading.{IsKeeping, IsLeading, Led}
+use Rattle.gather_run.specs.Looks.{Hears, HearsEnd, HearsOut, IsOverQueue, NamedBy, StaysLeading, Takes, tuples_of}
 use Rattle.gather_run.specs.declared.messages.Hearing.{Hearing}
 use Rattle.gather_run.specs.declared.messages.Hearing.TheVariants as hearing
 use Rattle.gather_run.specs.BlockSteps.{BlockStep, Steps}
@@ -137,16 +137,22 @@ led_out plan records blocks draws used old new before now (Some Memory) l s h = 
 alone_is : (callers : ℕ) (queues : List LeaderEnds) → callers ≡ suc (length queues) → map heard queues ≡ [] → callers ≡ 1
 alone_is callers queues e none = let long = ap (λ l. length l) none in omega (arith, e, long, map-long heard queues)
 
-pub led_failed : (plan : Plan) (records : Table) (claims : Claims) (blocks : ℕ) (draws : List ℕ) (used : Option Use) (queues : List LeaderEnds) (groups : GroupsByKey) (why : GatherAnswer) → callers_of claims ≡ suc (length queues)
-    → Steps plan records claims draws used queues groups (Failed why) → Led plan records blocks draws used (map heard queues) groups (Some why)
-led_failed plan records claims blocks draws used queues groups (Row row cause item) e (inl m) = inl (record { refused = m.refused; first = λ none. m.first (alone_is (callers_of claims) queues e none) })
-led_failed plan records claims blocks draws used queues groups (Row row cause item) e (inr a) = inr (any_heard row cause item queues a)
-led_failed plan records claims blocks draws used queues groups Memory e s = tt
+pub led_failed : (plan : Plan) (records : Table) (claims : Claims) (blocks : ℕ) (draws : List ℕ) (used : Option Use) (queues : List LeaderEnds) (kept groups : GroupsByKey) (why : GatherAnswer) → callers_of claims ≡ suc (length queues)
+    → Steps plan records claims draws used queues kept groups (Failed why) → Led plan records blocks draws used (map heard queues) groups (Some why)
+led_failed plan records claims blocks draws used queues kept groups (Row row cause item) e (inl m) = inl (record { refused = m.refused; first = λ none. m.first (alone_is (callers_of claims) queues e none) })
+led_failed plan records claims blocks draws used queues kept groups (Row row cause item) e (inr a) = inr (any_heard row cause item queues a)
+led_failed plan records claims blocks draws used queues kept groups Memory e s = tt
+
+-- what is kept stays kept where workers are heard
+pub heard_keeping : (plan : Plan) (records : Table) (draws : List ℕ) (used : Option Use) (old new : List LeaderEnds) (kept before now : GroupsByKey) → StaysLeading old new before now
+    → IsKeeping plan records draws used (map tuples_of old) kept before → IsKeeping plan records draws used (map tuples_of new) kept now
+heard_keeping plan records draws used old new kept before now stays k =
+    record { done = k.done; last = k.last; cut = k.cut; leading = stays plan records k.done used k.leading; accepted = k.accepted; kept_is = k.kept_is; none = k.none }
 
 -- what a block did, once all workers were heard
-pub step_of : (plan : Plan) (records : Table) (claims : Claims) (draws : List ℕ) (used : Option Use) (queues : List LeaderEnds) (groups : GroupsByKey) (step : Step) → BlockStep plan records claims draws used (map tuples_of queues) groups step
-    → Steps plan records claims draws used queues groups step
-step_of plan records claims draws used queues groups Next s = s
-step_of plan records claims draws used queues groups NoMore s = s
-step_of plan records claims draws used queues groups (Failed (Row row cause item)) s = inl s
-step_of plan records claims draws used queues groups (Failed Memory) s = tt
+pub step_of : (plan : Plan) (records : Table) (claims : Claims) (draws : List ℕ) (used : Option Use) (queues : List LeaderEnds) (kept groups : GroupsByKey) (step : Step) → BlockStep plan records claims draws used (map tuples_of queues) kept groups step
+    → Steps plan records claims draws used queues kept groups step
+step_of plan records claims draws used queues kept groups Next s = s
+step_of plan records claims draws used queues kept groups NoMore s = s
+step_of plan records claims draws used queues kept groups (Failed (Row row cause item)) s = inl s
+step_of plan records claims draws used queues kept groups (Failed Memory) s = tt

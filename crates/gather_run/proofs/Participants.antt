@@ -1,9 +1,10 @@
 -- What the leader and the workers did with a table of groups, put together.
-use Rattle.std.proofs.Common.{◌≡◌, ◌<◌, ◌≤◌, ◌+◌, ◌-◌, ◌*◌, ◌^◌, ◌++◌, ℕ, zero, suc, List, [], ◌∷◌, length, drop, fold, slice_get, map as map_list, All, Any, MatchOption, Option, Some, None, refl, ap, sym, subst, ◌∙◌, true}
+use Rattle.std.proofs.Common.{◌≡◌, ◌<◌, ◌≤◌, ◌+◌, ◌*◌, ◌^◌, ◌++◌, ℕ, zero, suc, List, [], ◌∷◌, length, drop, fold, slice_get, map as map_list, All, Any, MatchOption, Option, Some, None, refl, ap, sym, subst, ◌∙◌, true, length-append}
 use Rattle.std.specs.FinMap as map
 use Rattle.std.specs.List.{AllZip, flat_map}
 use Rattle.std.specs.List.Sorted.{IsPermutation}
 use Rattle.std.proofs.lemmas.List.{length-map}
+use Rattle.std.proofs.lemmas.List.Concat.{flat_map-append}
 use Rattle.std.proofs.lemmas.List.Elements.{All-head, All-nil, All-tail, All-weaker}
 use Rattle.agg_cell.specs.Called.{Seen}
 use Rattle.agg_table.specs.Calls.{AggEntry, HasPut, IsKeyed, Use, WasMissed, calls_at, done_in, partition_at}
@@ -19,7 +20,6 @@ use Rattle.partial_agg.specs.Groups.{AreGroups, GroupsByKey, added, with_rows}
 use Rattle.partial_agg.specs.Rows.{IsAccepted, header_width}
 use Rattle.row_blocks.specs.Blocks.{Table, block_rows, rows_of_blocks}
 use Rattle.partial_agg.proofs.Adding.{maps_grow, no_groups}
-use Rattle.row_blocks.proofs.BlockRows.{length-block}
 use Rattle.scan_claim.specs.Drawing.{flat, once_below, times}
 use Rattle.gather_law.specs.Parts.{Block, Part, Received, blocks_in, received_in, with_all, with_part}
 use Rattle.gather_law.specs.Tuples.{Group, groups_of}
@@ -28,16 +28,16 @@ use Rattle.parallel_ctx.specs.Accounts.{Heard, IsIdle, account_of, heard_of}
 use Rattle.parallel_ctx.specs.Ran.{AreWhole}
 use Rattle.parallel_ctx.specs.Tokens.{AreNumbered}
 use Rattle.parallel_ctx.specs.declared.home.Returned.{Returned}
-use Rattle.worker_run.specs.Tabled.{groups_of_blocks}
+use Rattle.worker_run.specs.Tabled.{groups_of_batches}
 use Rattle.worker_run.specs.declared.WorkerEnd.{WorkerEnd}
 use Rattle.worker_run.specs.declared.WorkerEnd.TheVariants.{Finished, Stopped, Refused, NoMemory}
 use Rattle.gather_run.specs.Did.{DidWork}
 use Rattle.worker_run.specs.Verdicts.{EndsWell}
 use Rattle.gather_run.specs.Leading.{HasLed}
 use Rattle.gather_run.specs.Reading.{ReadAs}
-use Rattle.gather_run.specs.Used.{AreBlockGroups, SharedItsBlocks}
-use Rattle.gather_run.proofs.Counting.{as_many_left, at_first, at_next, few_of_block, from_none, no_first, none_left, nothing_at, past_all, some_same}
-use Rattle.gather_run.proofs.Together.{Worker, no_groups_read, same_groups}
+use Rattle.gather_run.specs.Used.{AreBatchGroups, SharedItsBlocks}
+use Rattle.gather_run.proofs.Counting.{as_many_left, at_first, at_next, few_behind, few_in_front, few_in_sum, few_more, few_of_rows, few_past_sum, from_none, no_first, none_left, nothing_at, past_all, some_same}
+use Rattle.gather_run.proofs.Together.{Worker, no_groups_read, rows_few, same_groups}
 
 -- the map after groups alone is that of these groups
 groups_alone : (plan : Plan) (records : Table) (parts : List Part) (m : GroupsByKey) → blocks_in parts ≡ [] → fold (with_part plan records) m parts ≡ with_all m (received_in parts)
@@ -48,6 +48,10 @@ groups_alone plan records (Received g ∷ parts) m e = groups_alone plan records
 flat_of : {A B : Type 0} (f : A → List B) (xs : List A) → flat_map (λ l. l) (map_list f xs) ≡ flat_map f xs
 flat_of f [] = refl
 flat_of f (x ∷ xs) = ap (λ l. f x ++ l) (flat_of f xs)
+
+flat_through : {A B C : Type 0} (f : A → B) (g : B → List C) (xs : List A) → flat_map g (map_list f xs) ≡ flat_map (λ x. g (f x)) xs
+flat_through f g [] = refl
+flat_through f g (x ∷ xs) = ap (λ l. g (f x) ++ l) (flat_through f g xs)
 
 -- what a participant did is the same by histories that are the same
 same_put : (groups put left : List Group) (u v : Use) → ((i : ℕ) → v.turns i ≡ u.turns i) → v.pages ≡ u.pages → HasPut groups u put left → HasPut groups v put left
@@ -60,34 +64,61 @@ same_put groups put left u v turns pages h = record {
 }
 
 module _ (plan : Plan) (records : Table) where
-  -- a participant that drew these numbers shared out the groups of its blocks
+  -- a participant that drew these numbers shared out the groups of its blocks, in batches
   pub record TookPart (draws : List ℕ) (u : Use) (s : Share) : Type 0 where
-    pub has : HasPut (groups_of_blocks plan records draws) u s.put s.left
+    pub batches : List (List ℕ)
+    pub cut : flat batches ≡ draws
+    pub has : HasPut (groups_of_batches plan records batches) u s.put s.left
     pub accepted : All (IsAccepted plan (header_width records)) (rows_of_blocks records draws)
 
   -- ---- what is said of it
 
-  block_groups : (b : ℕ) → All (IsAccepted plan (header_width records)) (block_rows records b) → AreBlockGroups plan records b (groups_of plan (block_rows records b))
-  block_groups b h =
-      let short = length-block records b in
-      record {
-        whole = with_rows plan map.empty (block_rows records b);
-        are = maps_grow plan (header_width records) [] (block_rows records b) map.empty (All-nil (IsAccepted plan (header_width records))) h (few_of_block (length (block_rows records b)) (length records - (256 * b + 1)) short) (no_groups plan);
-        listed = refl;
-      }
+  -- the rows of batches, one behind the other
+  batch_rows : (batches : List (List ℕ)) → flat_map (λ (rows : Table). rows) (map_list (rows_of_blocks records) batches) ≡ rows_of_blocks records (flat batches)
+  batch_rows [] = refl
+  batch_rows (blocks ∷ batches) = ap (λ (rows : Table). rows_of_blocks records blocks ++ rows) (batch_rows batches) ∙ sym (flat_map-append (block_rows records) blocks (flat batches))
 
-  all_block_groups : (draws : List ℕ) → All (IsAccepted plan (header_width records)) (rows_of_blocks records draws) → AllZip (AreBlockGroups plan records) draws (map_list (λ b. groups_of plan (block_rows records b)) draws)
-  all_block_groups [] h = tt
-  all_block_groups (b ∷ draws) h = let both = All-apart (IsAccepted plan (header_width records)) (block_rows records b) (rows_of_blocks records draws) h in (block_groups b both.0, all_block_groups draws both.1)
-
-  pub part_shared : (draws : List ℕ) (u v : Use) (s : Share) → ((i : ℕ) → v.turns i ≡ u.turns i) → v.pages ≡ u.pages → TookPart draws u s → SharedItsBlocks plan records draws v
-  part_shared draws u v s turns pages t = record {
-    blocks = map_list (λ b. groups_of plan (block_rows records b)) draws;
-    are = all_block_groups draws t.accepted;
-    put = s.put;
-    left = s.left;
-    has = subst (λ gs. HasPut gs v s.put s.left) (sym (flat_of (λ b. groups_of plan (block_rows records b)) draws)) (same_put (groups_of_blocks plan records draws) s.put s.left u v turns pages t.has);
+  as_shares : (draws : List ℕ) (u : Use) (s : Share) → TookPart draws u s → Shares plan (header_width records) records draws s
+  as_shares draws u s t = record {
+    batches = map_list (rows_of_blocks records) t.batches;
+    cut = batch_rows t.batches ∙ ap (rows_of_blocks records) t.cut;
+    sent = subst (λ (gs : List Group). IsPermutation gs (s.put ++ s.left)) (sym (flat_through (rows_of_blocks records) (groups_of plan) t.batches)) t.has.all;
+    accepted = t.accepted;
   }
+
+  batch_groups : (blocks : List ℕ) → All (IsAccepted plan (header_width records)) (rows_of_blocks records blocks) → length (rows_of_blocks records blocks) < 2 ^ 63 → AreBatchGroups plan records blocks (groups_of plan (rows_of_blocks records blocks))
+  batch_groups blocks h few = record {
+    whole = with_rows plan map.empty (rows_of_blocks records blocks);
+    are = maps_grow plan (header_width records) [] (rows_of_blocks records blocks) map.empty (All-nil (IsAccepted plan (header_width records))) h (few_more (length (rows_of_blocks records blocks)) few) (no_groups plan);
+    listed = refl;
+  }
+
+  all_batch_groups : (batches : List (List ℕ)) → All (IsAccepted plan (header_width records)) (rows_of_blocks records (flat batches)) → length (rows_of_blocks records (flat batches)) < 2 ^ 63
+      → AllZip (AreBatchGroups plan records) batches (map_list (λ blocks. groups_of plan (rows_of_blocks records blocks)) batches)
+  all_batch_groups [] h few = tt
+  all_batch_groups (blocks ∷ batches) h few =
+      let mine = rows_of_blocks records blocks in
+      let rest = rows_of_blocks records (flat batches) in
+      let cut = flat_map-append (block_rows records) blocks (flat batches) in
+      let both = All-apart (IsAccepted plan (header_width records)) mine rest (subst (All (IsAccepted plan (header_width records))) cut h) in
+      let long = ap (length {A = List (List ℕ)}) cut ∙ length-append mine rest in (
+        batch_groups blocks both.0 (few_in_sum (length mine) (length rest) (length (rows_of_blocks records (blocks ++ flat batches))) long few),
+        all_batch_groups batches both.1 (few_past_sum (length mine) (length rest) (length (rows_of_blocks records (blocks ++ flat batches))) long few),
+      )
+
+  pub part_shared : (draws : List ℕ) (u v : Use) (s : Share) → length draws < 2 ^ 50 → ((i : ℕ) → v.turns i ≡ u.turns i) → v.pages ≡ u.pages → TookPart draws u s → SharedItsBlocks plan records draws v
+  part_shared draws u v s few turns pages t =
+      let rows : length (rows_of_blocks records draws) < 2 ^ 63 = few_of_rows (length (rows_of_blocks records draws)) (length draws) (rows_few records draws) few in
+      record {
+        batches = t.batches;
+        cut = t.cut;
+        groups = map_list (λ blocks. groups_of plan (rows_of_blocks records blocks)) t.batches;
+        are = all_batch_groups t.batches (subst (λ (ds : List ℕ). All (IsAccepted plan (header_width records)) (rows_of_blocks records ds)) (sym t.cut) t.accepted)
+            (subst (λ (ds : List ℕ). length (rows_of_blocks records ds) < 2 ^ 63) (sym t.cut) rows);
+        put = s.put;
+        left = s.left;
+        has = subst (λ gs. HasPut gs v s.put s.left) (sym (flat_of (λ blocks. groups_of plan (rows_of_blocks records blocks)) t.batches)) (same_put (groups_of_batches plan records t.batches) s.put s.left u v turns pages t.has);
+      }
 
   -- ---- all participants, in order of their numbers
 
@@ -108,7 +139,7 @@ module _ (plan : Plan) (records : Table) where
     all_share n [] [] t = tt
     all_share n [] (s ∷ shares) t = absurd t
     all_share n (ds ∷ draws) [] t = absurd t
-    all_share n (ds ∷ draws) (s ∷ shares) t = (record { all = t.0.has.all; accepted = t.0.accepted }, all_share (suc n) draws shares t.1)
+    all_share n (ds ∷ draws) (s ∷ shares) t = (as_shares ds (uses n) s t.0, all_share (suc n) draws shares t.1)
 
     abbrev puts_of : List Share → List (List Group)
     puts_of shares = map_list (λ (s : Share). s.put) shares
@@ -170,12 +201,12 @@ module _ (plan : Plan) (records : Table) where
               let none : gs ≡ [] = no_groups_read gs (subst (λ ms. ReadAs ms gs) (all ∙ d.tuples) read) in (
                 [],
                 subst (λ ds. TookPart ds u (record { put = []; left = gs })) (sym d.draws)
-                    (record { has = subst (λ l. HasPut [] u [] l) (sym none) (has_put_nothing u d.used); accepted = All-nil (IsAccepted plan (header_width records)) }),
+                    (record { batches = []; cut = refl; has = subst (λ l. HasPut [] u [] l) (sym none) (has_put_nothing u d.used); accepted = All-nil (IsAccepted plan (header_width records)) }),
               )
           by (Some Finished) d w =
               let t = d.ended in
               let same : gs ≡ t.left = same_groups plan t.left gs (subst (λ ms. ReadAs ms gs) (all ∙ t.sent) read) t.written in
-              (t.put, record { has = subst (λ l. HasPut (groups_of_blocks plan records draws) u t.put l) (sym same) t.has; accepted = t.accepted })
+              (t.put, record { batches = t.batches; cut = t.cut; has = subst (λ l. HasPut (groups_of_batches plan records t.batches) u t.put l) (sym same) t.has; accepted = t.accepted })
           by (Some Stopped) d w = absurd w
           by (Some (Refused row cause item)) d w = absurd w
           by (Some NoMemory) d w = absurd w
@@ -212,7 +243,7 @@ module _ (plan : Plan) (records : Table) where
           let s : Share = record { put = l.own.put; left = l.left } in
           record {
             shares = s ∷ more.shares;
-            took = (record { has = l.own.has; accepted = l.accepted }, more.took);
+            took = (record { batches = l.own.batches; cut = l.own.cut; has = l.own.has; accepted = l.accepted }, more.took);
             kept = received_in l.parts;
             map_is = l.map_is ∙ groups_alone plan records l.parts map.empty l.own.none;
             left = subst (λ gs. IsPermutation (received_in l.parts) (l.left ++ gs)) (sym more.left) l.received;
@@ -234,13 +265,15 @@ module _ (plan : Plan) (records : Table) where
     -- ---- what is said of all
 
     pub workers_shared : (vs : ℕ → Use) → ((n i : ℕ) → (vs n).turns i ≡ (uses n).turns i) → ((n : ℕ) → (vs n).pages ≡ (uses n).pages) → (n : ℕ) (draws : List (List ℕ)) (shares : List Share) (ws : List (Returned WorkerEnd))
-        → length ws ≡ length draws → AllTookPart n draws shares → AreNumbered n (map_list (λ (w : Returned WorkerEnd). w.number) ws) → AllZip (λ ds (w : Returned WorkerEnd). SharedItsBlocks plan records ds (vs w.number)) draws ws
-    workers_shared vs turns pages n [] [] [] long t k = tt
-    workers_shared vs turns pages n [] [] (w ∷ ws) long t k = absurd (none_left (length ws) long)
-    workers_shared vs turns pages n [] (s ∷ shares) ws long t k = absurd t
-    workers_shared vs turns pages n (ds ∷ draws) [] ws long t k = absurd t
-    workers_shared vs turns pages n (ds ∷ draws) (s ∷ shares) [] long t k = absurd (none_left (length draws) (sym long))
-    workers_shared vs turns pages n (ds ∷ draws) (s ∷ shares) (w ∷ ws) long t k = (
-      subst (λ j. SharedItsBlocks plan records ds (vs j)) (sym k.0) (part_shared ds (uses n) (vs n) s (turns n) (pages n) t.0),
-      workers_shared vs turns pages (suc n) draws shares ws (as_many_left (length ws) (length draws) long) t.1 k.1,
-    )
+        → length (flat draws) < 2 ^ 50 → length ws ≡ length draws → AllTookPart n draws shares → AreNumbered n (map_list (λ (w : Returned WorkerEnd). w.number) ws)
+        → AllZip (λ ds (w : Returned WorkerEnd). SharedItsBlocks plan records ds (vs w.number)) draws ws
+    workers_shared vs turns pages n [] [] [] few long t k = tt
+    workers_shared vs turns pages n [] [] (w ∷ ws) few long t k = absurd (none_left (length ws) long)
+    workers_shared vs turns pages n [] (s ∷ shares) ws few long t k = absurd t
+    workers_shared vs turns pages n (ds ∷ draws) [] ws few long t k = absurd t
+    workers_shared vs turns pages n (ds ∷ draws) (s ∷ shares) [] few long t k = absurd (none_left (length draws) (sym long))
+    workers_shared vs turns pages n (ds ∷ draws) (s ∷ shares) (w ∷ ws) few long t k =
+        let sum = length-append ds (flat draws) in (
+          subst (λ j. SharedItsBlocks plan records ds (vs j)) (sym k.0) (part_shared ds (uses n) (vs n) s (few_in_front (length ds) (length (flat draws)) (length (ds ++ flat draws)) sum few) (turns n) (pages n) t.0),
+          workers_shared vs turns pages (suc n) draws shares ws (few_behind (length ds) (length (flat draws)) (length (ds ++ flat draws)) sum few) (as_many_left (length ws) (length draws) long) t.1 k.1,
+        )

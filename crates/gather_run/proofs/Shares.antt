@@ -1,6 +1,8 @@
 -- Groups are shared out, one after another.
-use Rattle.std.proofs.Common.{◌≡◌, ◌++◌, inl, inr, ℕ, List, [], ◌∷◌, length, Result, Ok, Err, IfErr, arith, refl, ap, sym, subst, ◌∙◌, append-nil, append_assoc}
+use Rattle.std.proofs.Common.{◌≡◌, ◌<◌, ◌++◌, inl, inr, ℕ, List, [], ◌∷◌, length, Result, Ok, Err, IfErr, OnOk, true, arith, refl, ap, sym, subst, ◌∙◌, append-nil, append_assoc}
 use Rattle.std.specs.FinMap as map
+use Rattle.std.specs.Result.{is_ok}
+use Rattle.std.specs.declared.alloc.AllocError.{AllocError}
 use Rattle.std.proofs.lemmas.List.Sums.{fold-append}
 use Rattle.agg_table.specs.Calls.{HasPut, Use}
 use Rattle.agg_table.proofs.Putting.{has_left_more, has_put_more}
@@ -12,7 +14,9 @@ use Rattle.partial_agg.specs.declared.map.BlockAnswer.TheVariants as answer
 use Rattle.par_model.specs.Plan.{Plan}
 use Rattle.gather_law.specs.Tuples.{Group}
 use Rattle.row_blocks.specs.Blocks.{Table}
-use Rattle.gather_run.specs.Sharing.{SharesGroup, SharesGroups, StopsAt}
+use Rattle.worker_run.specs.Working.{most_kept}
+use Rattle.gather_run.proofs.Counting.{not_true}
+use Rattle.gather_run.specs.Sharing.{SharesGroup, SharesGroups, SharesMany, StopsAt}
 
 nil_of_length : {A : Type 0} (xs : List A) → length xs ≡ 0 → xs ≡ []
 nil_of_length [] e = refl
@@ -71,6 +75,17 @@ pub sharing-end : (groups rest : GroupsByKey) (u v : Use) (before now : GroupsBy
 sharing-end groups rest u v before now i e =
     let all : map.entries groups ≡ i.done = i.split ∙ ap (λ (m : GroupsByKey). i.done ++ map.entries m) e ∙ ap (λ l. i.done ++ l) no_entries ∙ append-nil i.done in
     subst (λ (gs : List Group). SharesGroups gs u v before now) (sym all) i.shares
+
+-- what is said of an answer that is Ok holds where it is
+pub where_ok : (P : Type 0) (r : Result (Unit {0}) AllocError) → is_ok r ≡ true → OnOk r P → P
+where_ok P (Ok done) e h = h
+where_ok P (Err why) e h = absurd (not_true (sym e))
+
+-- all that was shared out leaves few
+pub shared_many : (all kept : GroupsByKey) (u v : Use) (before now : GroupsByKey) (r : Result (Unit {0}) AllocError) → OnOk r (kept ≡ map.empty) → OnOk r (SharesGroups (map.entries all) u v before now) → OnOk r (SharesMany all u v kept before now)
+shared_many all kept u v before now (Ok done) e s =
+    record { few = subst (λ (m : GroupsByKey). map.len m < most_kept) (sym e) (subst (λ (n : ℕ). n < most_kept) (sym (map.len-empty key_cmp AggState)) (let some : 0 < 1048576 = omega arith in some)); shared = inr (e, s) }
+shared_many all kept u v before now (Err why) e s = tt
 
 -- ---- a block that stopped
 

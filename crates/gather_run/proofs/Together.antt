@@ -66,6 +66,10 @@ ends_of ws = map (λ (w : Returned WorkerEnd). w.end) ws
 pub all_well : (ws : List (Returned WorkerEnd)) → AreVerdict (ends_of ws) None → All (λ (w : Returned WorkerEnd). EndsWell w.end) ws
 all_well ws v = all_apart EndsWell (λ (w : Returned WorkerEnd). w.end) ws v
 
+pub rows_few : (records : Table) (draws : List ℕ) → length (rows_of_blocks records draws) ≤ 256 * length draws
+rows_few records [] = omega arith
+rows_few records (b ∷ draws) = omega (arith, length-append (block_rows records b) (rows_of_blocks records draws), length-block records b, rows_few records draws)
+
 module _ (uses : ℕ → Option Use) (plan : Plan) (records : Table) (blocks : ℕ) where
   abbrev Did : Plan → ℕ → Account → WorkerEnd → Type 0
   Did p b account end = DidWork p records b account end
@@ -252,10 +256,6 @@ module _ (uses : ℕ → Option Use) (plan : Plan) (records : Table) (blocks : �
 
   -- ---- the blocks and the tuples
 
-  rows_few : (draws : List ℕ) → length (rows_of_blocks records draws) ≤ 256 * length draws
-  rows_few [] = omega arith
-  rows_few (b ∷ draws) = omega (arith, length-append (block_rows records b) (rows_of_blocks records draws), length-block records b, rows_few draws)
-
   nothing_sent : CombineTo plan [] []
   nothing_sent = record { groups = []; has = tt; are = refl; whole = no_groups plan }
 
@@ -269,7 +269,7 @@ module _ (uses : ℕ → Option Use) (plan : Plan) (records : Table) (blocks : �
       by : (end : Option WorkerEnd) → MatchOption end (IsIdle (account_of uses draws r)) (λ e. DidPlain plan blocks (account_of uses draws r) e) → EndsWell end → CombineTo plan (rows_of_blocks records draws) (whole_of r.tuples.sender.put)
       by None d w =
           subst (λ ds. CombineTo plan (rows_of_blocks records ds) (whole_of r.tuples.sender.put)) (sym d.draws) (subst (CombineTo plan []) (sym d.tuples) nothing_sent)
-      by (Some Finished) d w = combines plan (header_width records) (rows_of_blocks records draws) (whole_of r.tuples.sender.put) d.ended.accepted (few_of_rows (length (rows_of_blocks records draws)) (length draws) (rows_few draws) few) d.ended.sent
+      by (Some Finished) d w = combines plan (header_width records) (rows_of_blocks records draws) (whole_of r.tuples.sender.put) d.ended.accepted (few_of_rows (length (rows_of_blocks records draws)) (length draws) (rows_few records draws) few) d.ended.sent
       by (Some Stopped) d w = absurd w
       by (Some (Refused row cause item)) d w = absurd w
       by (Some NoMemory) d w = absurd w

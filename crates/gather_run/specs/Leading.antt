@@ -1,10 +1,11 @@
 -- What a leader has put into its map so far, and why it may have given up.
 use Rattle.std.specs.Prelude.{◌≡◌, ◌⊎◌, ◌++◌, ℕ, List, [], All, Any, IsTrue, Option, Some, None, length, map as map_list, true}
+use Rattle.std.specs.FinMap as map
 use Rattle.std.specs.List.{AllZip, flat_map}
 use Rattle.std.specs.List.Sorted.{IsPermutation}
 use Rattle.agg_table.specs.Calls.{Use}
 use Rattle.par_model.specs.Plan.{Plan}
-use Rattle.partial_agg.specs.Groups.{GroupsByKey}
+use Rattle.partial_agg.specs.Groups.{GroupsByKey, with_rows}
 use Rattle.partial_agg.specs.Rows.{IsAccepted, header_width}
 use Rattle.scan_claim.specs.Drawing.{below, is_spent}
 use Rattle.scan_claim.specs.Shown.{callers_of, draws_of}
@@ -33,6 +34,17 @@ pub record IsLeading (plan : Plan) (records : Table) (draws : List ℕ) (used : 
   pub accepted : All (IsAccepted plan (header_width records)) (rows_of_blocks records draws)
   pub read : AllZip ReadAs tuples taken
   pub received : IsPermutation (received_in parts) (left ++ flat_map (λ groups. groups) taken)
+
+-- Of the blocks that it drew it has done the first ones; the groups of the others, whose rows are not refused, it keeps in
+-- a second map. Without a table of groups there are no others
+pub record IsKeeping (plan : Plan) (records : Table) (draws : List ℕ) (used : Option Use) (tuples : List (List (List ℕ))) (kept groups : GroupsByKey) : Type 0 where
+  pub done : List ℕ
+  pub last : List ℕ
+  pub cut : done ++ last ≡ draws
+  pub leading : IsLeading plan records done used tuples groups
+  pub accepted : All (IsAccepted plan (header_width records)) (rows_of_blocks records last)
+  pub kept_is : kept ≡ with_rows plan map.empty (rows_of_blocks records last)
+  pub none : used ≡ None → last ≡ []
 
 -- if it is alone it draws the blocks in order
 abbrev pub DrawsInOrder : Claims → ClaimSeat → Type 0

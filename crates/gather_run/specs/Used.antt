@@ -11,7 +11,7 @@ use Rattle.dshash_parts.specs.Ending.{whole_of as histories}
 use Rattle.mq_handle.specs.Messages.{whole_of}
 use Rattle.par_model.specs.Plan.{Plan}
 use Rattle.partial_agg.specs.Groups.{AreGroups, GroupsByKey}
-use Rattle.row_blocks.specs.Blocks.{Table, block_rows, rows_of_blocks}
+use Rattle.row_blocks.specs.Blocks.{Table, rows_of_blocks}
 use Rattle.scan_claim.specs.Drawing.{flat, times}
 use Rattle.scan_claim.specs.Shown.{lists_of}
 use Rattle.gather_law.specs.Law.{CombineTo}
@@ -32,22 +32,24 @@ SentItsRows plan records draws w = CombineTo plan (rows_of_blocks records draws)
 
 -- ---- with a table
 
--- some groups are those of a block's rows: each key that occurs there, once, with the aggregates of its rows
-pub record AreBlockGroups (plan : Plan) (records : Table) (block : ℕ) (groups : List Group) : Type 0 where
+-- some groups are those of the rows of some blocks: each key that occurs there, once, with the aggregates of its rows
+pub record AreBatchGroups (plan : Plan) (records : Table) (blocks : List ℕ) (groups : List Group) : Type 0 where
   pub whole : GroupsByKey
-  pub are : AreGroups plan (block_rows records block) whole
+  pub are : AreGroups plan (rows_of_blocks records blocks) whole
   pub listed : groups ≡ map.entries whole
 
--- A participant put each group of each block that it drew into the table, or left it. At each partition its calls that
--- were made are those of the groups that it put in, in order, and no others. For each group that it left the histories
--- have one of its calls, with that key and that state, which was not made, and one of its requests for pages was
--- refused
+-- The blocks that a participant drew lie in batches, in the order in which it drew them. It put each group of each
+-- batch into the table, or left it. At each partition its calls that were made are those of the groups that it put in, in
+-- order, and no others. For each group that it left the histories have one of its calls, with that key and that state,
+-- which was not made, and one of its requests for pages was refused
 pub record SharedItsBlocks (plan : Plan) (records : Table) (draws : List ℕ) (u : Use) : Type 0 where
-  pub blocks : List (List Group)
-  pub are : AllZip (AreBlockGroups plan records) draws blocks
+  pub batches : List (List ℕ)
+  pub cut : flat batches ≡ draws
+  pub groups : List (List Group)
+  pub are : AllZip (AreBatchGroups plan records) batches groups
   pub put : List Group
   pub left : List Group
-  pub has : HasPut (flat_map (λ groups. groups) blocks) u put left
+  pub has : HasPut (flat_map (λ batch. batch) groups) u put left
 
 -- ---- all participants
 

@@ -6,8 +6,8 @@
 //! came, is the law of `gather_law`; here it is shown that a run is one of those that the law speaks of. A worker that
 //! ended early has left rows out, so the answer is then a refused row or a lack of memory, and never groups.
 //!
-//! With a shared table the leader and the workers put the groups of each block there. Only a group for which the table
-//! has no room goes as a tuple, or into the leader's map. When all are home, what is in the closed table is added to
+//! With a shared table the leader and the workers put the groups there that they have kept over many blocks. Only a
+//! group for which the table has no room goes as a tuple, or into the leader's map. When all are home, what is in the closed table is added to
 //! the map, each key once; `agg_law` says that the map is then that of one pass.
 
 #![tactic(auto)]
@@ -99,8 +99,8 @@ fn add_table(
 /// workers. Fewer workers than asked for may start, also none.
 ///
 /// The time of the rows is shared out by blocks of 256; that of taking the groups off the queues, and of draining the
-/// table, is the leader's. Memory is 82 KB for each worker, the groups, the table's area, and if there is no table the
-/// groups of each worker's own rows.
+/// table, is the leader's. Memory is 82 KB for each worker, the groups, the table's area, and the groups of each
+/// participant's own rows.
 pub fn gather<G: Gate + Sync, R: Threads + Wait + Sync>(
     rt: &R,
     alloc: Global,

@@ -1,5 +1,5 @@
 -- What a worker has done and said when it ends.
-use Rattle.std.proofs.Common.{◌≡◌, ◌⊎◌, ◌++◌, inl, inr, ℕ, List, [], ◌∷◌, length, All, Contains, IsTrue, true, refl, ap, sym, subst, ◌∙◌, arith, append-nil}
+use Rattle.std.proofs.Common.{◌≡◌, ◌⊎◌, ◌++◌, inl, inr, ℕ, List, [], ◌∷◌, length, All, Contains, IsTrue, None, true, refl, ap, sym, subst, ◌∙◌, arith, append-nil}
 use Rattle.std.specs.FinMap as map
 use Rattle.std.specs.List.{flat_map}
 use Rattle.std.proofs.lemmas.List.Elements.{All-append, All-cons, All-nil, Contains-push}
@@ -23,7 +23,7 @@ use Rattle.worker_run.specs.Ended.{HasEnded, HasRefused, IsNotice, IsOwnRow, IsR
 use Rattle.worker_run.specs.Sent.{AreWritten, FoundGone, HasSent, StoppedSending, tuples_of}
 use Rattle.worker_run.specs.Notices.{GivesUp}
 use Rattle.worker_run.specs.Job.{DrawsNone}
-use Rattle.worker_run.specs.Steps.{Finishes, HasFinished}
+use Rattle.worker_run.specs.Steps.{HasFinished}
 use Rattle.worker_run.specs.Working.{IsWorking}
 use Rattle.worker_run.specs.declared.WorkerEnd.{WorkerEnd}
 use Rattle.worker_run.specs.declared.WorkerEnd.TheVariants.{Finished, Stopped}
@@ -56,11 +56,11 @@ module _ (plan : Plan) (records : Table) where
   -- ---- no more blocks
 
   pub has_finished : (blocks : ℕ) (draws draws' : List ℕ) (groups : GroupsByKey) (errors tuples errors' tuples' : Sending) → AreBlocks records blocks → IsWorking plan records draws groups errors tuples
-      → DrawsNone blocks draws draws' → IsTrue (is_spent blocks draws') → HasFinished (length plan.items) groups errors tuples errors' tuples'
+      → DrawsNone blocks draws draws' → IsTrue (is_spent blocks draws') → HasFinished (length plan.items) None None groups errors tuples errors' tuples'
       → HasEnded plan records blocks draws' (sends_of errors' tuples') Finished
   unfolding working-flush
   has_finished blocks draws draws' groups errors tuples errors' tuples' a w late spent f =
-      let flushed = working-flush plan records draws groups map.empty errors tuples tuples' w (record { empty = refl; all = f.sent }) in
+      let flushed = working-flush plan records draws groups map.empty errors tuples tuples' w f.passed in
       let same = late_draw plan records blocks draws draws' a late in
       let said : whole_of errors'.put ≡ encoding message.End ∷ [] = f.said.sent ∙ ap (λ l. l ++ encoding message.End ∷ []) w.silent in
       record {
@@ -81,23 +81,12 @@ module _ (plan : Plan) (records : Table) where
         tuples = working_tuples draws map.empty errors tuples' flushed;
       }
 
-  -- a worker that has said nothing yet, and all of whose messages are tuples, finds a receiver gone as it finishes
-  pub stopped_finishing : (blocks : ℕ) (draws : List ℕ) (groups : GroupsByKey) (errors tuples errors' tuples' : Sending) → whole_of errors.put ≡ [] → All (IsTupleOf plan) (whole_of tuples.put)
-      → Finishes (length plan.items) groups errors tuples errors' tuples' Stopped → HasEnded plan records blocks draws (sends_of errors' tuples') Stopped
-  stopped_finishing blocks draws groups errors tuples errors' tuples' e t (inl f) =
-      let quiet : whole_of errors'.put ≡ [] = ap (λ (s : Sending). whole_of s.put) f.1 ∙ e in
-      record {
-        ended = record { silent = quiet; found = inr (gone_is tuples' f.0.found.flag) };
-        notices = silence draws errors' quiet;
-        tuples = more_tuples f.0.done tuples tuples' t f.0.written f.0.found.sent;
-      }
-  stopped_finishing blocks draws groups errors tuples errors' tuples' e t (inr f) =
-      let quiet = silent_yet errors errors' e f.1.sent in
-      record {
-        ended = record { silent = quiet; found = inl (gone_is errors' f.1.flag) };
-        notices = silence draws errors' quiet;
-        tuples = more_tuples f.0.done tuples tuples' t f.0.these.written f.0.these.sent.sent;
-      }
+  -- a worker that has said nothing yet, and all of whose messages are tuples, finds the receiver of its notices gone
+  pub stopped_saying : (blocks : ℕ) (draws : List ℕ) (errors errors' tuples : Sending) → whole_of errors.put ≡ [] → All (IsTupleOf plan) (whole_of tuples.put) → FoundGone errors errors' []
+      → HasEnded plan records blocks draws (sends_of errors' tuples) Stopped
+  stopped_saying blocks draws errors errors' tuples e t f =
+      let quiet = silent_yet errors errors' e f.sent in
+      record { ended = record { silent = quiet; found = inl (gone_is errors' f.flag) }; notices = silence draws errors' quiet; tuples = t }
 
   -- ---- a block that was not added whole
 

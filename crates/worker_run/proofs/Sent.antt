@@ -1,15 +1,11 @@
 -- Groups that are sent one by one.
-use Rattle.std.proofs.Common.{◌≡◌, ◌≤◌, ◌<◌, ◌+◌, ◌++◌, ℕ, List, [], ◌∷◌, get_or, length, take, arith, refl, ap, sym, subst, ◌∙◌, append-nil, append_assoc}
-use Rattle.std.specs.FinMap as map
+use Rattle.std.proofs.Common.{◌≡◌, ◌≤◌, ◌<◌, ◌+◌, ◌++◌, ℕ, List, [], ◌∷◌, get_or, length, take, refl, ap, sym, subst, ◌∙◌, append-nil, append_assoc}
 use Rattle.std.proofs.lemmas.List.{map-append, take_more}
-use Rattle.std.proofs.lemmas.List.Sorted.{length_permutation}
 use Rattle.mq_handle.specs.Messages.{whole_of}
-use Rattle.par_model.specs.declared.state.AggState.{AggState}
-use Rattle.partial_agg.specs.Groups.{GroupsByKey, key_cmp}
 use Rattle.ring_rule.specs.Ring.{Sending}
 use Rattle.tuple_codec.specs.Tuple.{IsTuple, tuple_bytes}
 use Rattle.gather_law.specs.Tuples.{Group}
-use Rattle.worker_run.specs.Sent.{AreWritten, FoundGone, HasSent, HasSentAll, HasSentThese, IsReady, StoppedSending, tuples_of}
+use Rattle.worker_run.specs.Sent.{AreWritten, FoundGone, HasSent, HasSentThese, IsReady, StoppedSending, tuples_of}
 use Rattle.tuple_codec.specs.declared.write.TheConstants.{TUPLE_BYTES}
 
 pub has_sent_nothing : (n : ℕ) (s : Sending) → IsReady n s → HasSent s s []
@@ -52,17 +48,3 @@ these_stopped slots groups old mid new h s = record {
   written = h.written;
   found = record { ring = s.ring ∙ h.sent.ring; stays = s.stays; flag = s.flag; sent = s.sent ∙ append-nil (whole_of mid.put) ∙ h.sent.sent };
 }
-
--- ---- the groups of a map
-
-nil_of_length : {X : Type 0} (xs : List X) → length xs ≡ 0 → xs ≡ []
-nil_of_length [] e = refl
-nil_of_length (x ∷ xs) e = let no : ⊥ = grind arith in absurd no
-
-pub no_entries : map.entries (map.empty {K = List ℕ} {X = AggState} {R = key_cmp}) ≡ []
-no_entries = nil_of_length (map.entries map.empty) (sym (map.len-entries map.empty) ∙ map.len-empty key_cmp AggState)
-
-pub none_sent : (slots : ℕ) (groups : GroupsByKey) (old new : Sending) → groups ≡ map.empty → (h : HasSentAll slots groups old new) → h.done ≡ []
-none_sent slots groups old new e h =
-    let long = length_permutation (map.entries groups) h.done h.all in
-    nil_of_length h.done (long ∙ ap (λ (m : GroupsByKey). length (map.entries m)) e ∙ ap (λ (gs : List Group). length gs) no_entries)

@@ -14,7 +14,7 @@ use Rattle.worker_run.specs.Sent.{AreWritten, IsReady, tuples_of}
 use Rattle.tuple_codec.specs.declared.write.TheConstants.{TUPLE_BYTES}
 use Rattle.error_queue.specs.declared.TheConstants.{MESSAGE_BYTES}
 
--- a worker goes on to its next block with fewer groups than this
+-- a participant goes on to its next block with fewer groups than this in the map that it keeps
 abbrev pub most_kept : ℕ
 most_kept = 1048576
 

@@ -1,9 +1,10 @@
 //! A worker of a query, next to the leader and the other workers.
 //!
-//! A worker draws blocks of rows until there are no more, adds the rows of each to a map of groups, and sends these as
-//! tuples on its tuple queue: all of them if they are many, and the rest at the end. On its error queue it sends a
-//! single notice: `X` as its last act, when all its tuples are sent, or `E` with the row that is refused. So a leader
-//! that reads `X` knows that the tuples before it stand for all rows of the worker's blocks.
+//! A worker draws blocks of rows until there are no more, adds the rows of each to a map of groups, and passes these on:
+//! all of them if they are many, and the rest at the end. They go as tuples on its tuple queue, or into the table of
+//! groups if there is one. On its error queue it sends a single notice: `X` as its last act, when all its tuples are
+//! sent, or `E` with the row that is refused. So a leader that reads `X` knows that the tuples before it stand for all
+//! rows of the worker's blocks, but for the groups that it put into the table.
 //!
 //! What leaders and other workers share with it is here too: what a participant works on and how it draws blocks
 //! (`Job`), what is said and heard by notices, and what the workers' ends mean.
@@ -38,6 +39,7 @@ use worker::work_all;
 mod gate;
 mod job;
 mod notices;
+mod passing;
 mod sending;
 mod tabled;
 mod verdicts;
@@ -46,6 +48,7 @@ mod worker;
 pub use gate::{Gate, OpenGate};
 pub use job::Job;
 pub use notices::{News, end_in_order, give_up, hear_last, hear_notices};
+pub use passing::MOST_KEPT;
 pub use verdicts::verdict_with;
 
 /// How a worker ended.
@@ -62,11 +65,12 @@ pub enum WorkerEnd {
 }
 
 /// Works by the plan in the table of contents until there are no more blocks, and returns how it ended. It passes the
-/// gate before each block, as participant `number`. If there is a table of groups, it puts the groups of each block
-/// there, and a group for which there is no room goes as a tuple. Tuples are sent without flush, the notice with it;
-/// both ends are detached afterwards, the tuple queue's first. It waits while a queue is full, until the receiver takes
-/// something or is gone. Time is that of `add_block` over its blocks and of `encode` over its groups; memory is that of
-/// a map of the groups of its rows, 1,048,831 at most.
+/// gate before each block, as participant `number`. It keeps the groups of its blocks until they are 1,048,576 or there
+/// are no more blocks. If there is a table of groups, it then puts them there, one call each, and a group for which there
+/// is no room goes as a tuple. Tuples are sent without flush, the notice with it; both ends are detached afterwards, the
+/// tuple queue's first. It waits while a queue is full, until the receiver takes something or is gone. Time is that of
+/// `add_block` over its blocks, and of `encode` or of `HashPart::put` over its groups; memory is that of a map of the
+/// groups of its rows, 1,048,831 at most.
 pub fn work<G: Gate, R: Wait>(
     rt: &R,
     alloc: Global,

@@ -10,12 +10,8 @@ ghost use Rattle.std.specs.List.{AllByRecursion};
 ghost use Rattle.par_model.specs.declared.refusal.TheConstants.{LONGEST_KEY};
 ghost use Rattle.tuple_codec.specs.Tuple.{IsTuple, tuple_bytes};
 ghost use Rattle.worker_run.specs.Sent.{FoundGone, HasSent, HasSentGroups, HasSentThese, HasZeros, IsReady, StoppedSending, pairs_of};
-ghost use Rattle.worker_run.specs.Steps.{Finishes, KeepsQueues};
 ghost use Rattle.tuple_codec.specs.declared.write.TheConstants.{TUPLE_BYTES};
-ghost use Rattle.error_queue.specs.declared.TheConstants.{MESSAGE_BYTES};
 
-use crate::WorkerEnd;
-use crate::notices::end_in_order;
 use mq_handle::{SendDone, Sender};
 use par_model::AggState;
 use partial_agg::{GroupMap, LentGroups, empty};
@@ -99,30 +95,4 @@ pub(crate) fn send_groups<R: Wait>(
     }
     groups.clear();
     true
-}
-
-/// Sends the groups that are left, and then says by an `X` that the work is done.
-pub(crate) fn finish<R: Wait>(
-    rt: &R,
-    r: &Region,
-    errors: &mut Sender,
-    tuples: &mut Sender,
-    groups: &mut GroupMap,
-    slots: u32,
-) -> WorkerEnd
-    requires errors_here { errors.old.region ≡ r.now }
-    requires errors_ready { IsReady MESSAGE_BYTES errors.old.end }
-    requires here { tuples.old.region ≡ r.now }
-    requires ready { IsReady TUPLE_BYTES tuples.old.end }
-    requires few { slots ≤ 8 }
-    requires zeros { AllByRecursion (HasZeros slots) (map.entries groups.old) }
-    ensures errors_kept { errors.new ≡ record errors.old { end = errors.new.end } }
-    ensures tuples_kept { tuples.new ≡ record tuples.old { end = tuples.new.end } }
-    ensures queues { KeepsQueues errors.old.end tuples.old.end errors.new.end tuples.new.end }
-    ensures end { Finishes slots groups.old errors.old.end tuples.old.end errors.new.end tuples.new.end result }
-{
-    if !send_groups(rt, r, tuples, groups, slots) {
-        return WorkerEnd::Stopped;
-    }
-    end_in_order(rt, r, errors, tuples)
 }

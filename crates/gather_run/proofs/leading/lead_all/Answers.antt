@@ -1,11 +1,13 @@
-use Rattle.std.proofs.Common.{◌≡◌, ◌∙◌, suc, length, refl, ap}
+use Rattle.std.proofs.Common.{◌≡◌, ◌∙◌, suc, length, map, refl, ap}
 use Rattle.agg_table.specs.Shown.{use_in}
 use Rattle.scan_claim.specs.Shown.{blocks_of, callers_of, draws_of}
 use Rattle.parallel_ctx.specs.Tokens.{SameQueues}
 use Rattle.parallel_ctx.proofs.Zips.{AllZip-length}
 use Rattle.parallel_ctx.proofs.Queues.{all-same}
 use Rattle.worker_run.proofs.Seated.{seated_then, stays_seated, stays_through}
+use Rattle.gather_run.specs.Looks.{tuples_of}
 use Rattle.gather_run.proofs.Looking.{all-trans, led_failed, led_out}
+use Rattle.gather_run.proofs.Parts.{keeping_none}
 use Rattle.gather_run.proofs.leading.lead_all.Goals as goal
 
 pub loop-init : goal.loop-init
@@ -17,10 +19,9 @@ loop-init g c = record {
   number = refl;
   seat = c.requires.seat;
   stays = stays_seated c.args.job.now.region.now c.args.job.now.table.now c.args.seat.now c.requires.seat;
-  empty = c.new-block_groups.ensures.empty;
   open_are = c.requires.queues;
   same = all-same c.args.queues.now;
-  leading = c.requires.leading;
+  leading = keeping_none c.args.job.now.plan.now c.args.job.now.rows.now (draws_of c.args.claim.now) (use_in c.args.seat.now) (map tuples_of c.args.queues.now) c.new-kept.result c.args.groups.now c.requires.leading c.new-kept.ensures.empty;
 }
 
 pub loop-preserved : goal.loop-preserved
@@ -32,7 +33,6 @@ loop-preserved g c = record {
   number = c.lead_next.ensures.claim.1 ∙ c.loop.invariant.number;
   seat = seated_then c.args.job.now.region.now c.args.job.now.table.now c.loop.seat c.lead_next.new.seat c.loop.invariant.seat c.lead_next.ensures.seat;
   stays = stays_through c.args.job.now.table.now c.args.seat.now c.loop.seat c.lead_next.new.seat c.loop.invariant.stays c.lead_next.ensures.seat;
-  empty = c.in-Next.ensures.empty;
   open_are = c.lead_next.ensures.«open»;
   same = all-trans c.args.queues.now c.loop.queues c.lead_next.new.queues c.loop.invariant.same c.lead_next.ensures.same;
   leading = c.in-Next.ensures.step;
@@ -57,7 +57,7 @@ returns-in-Failed-clause-led g c =
     let same = all-trans c.args.queues.now c.loop.queues c.lead_next.new.queues c.loop.invariant.same c.lead_next.ensures.same in
     let long = AllZip-length SameQueues c.args.queues.now c.lead_next.new.queues same in
     let count : callers_of c.args.job.now.claims.now ≡ suc (length c.lead_next.new.queues) = c.requires.callers ∙ ap suc long in
-    led_failed c.args.job.now.plan.now c.args.job.now.rows.now c.args.job.now.claims.now (blocks_of c.args.job.now.claims.now) (draws_of c.lead_next.new.claim) (use_in c.lead_next.new.seat) c.lead_next.new.queues c.lead_next.new.groups c.in-Failed.why count c.in-Failed.ensures.step
+    led_failed c.args.job.now.plan.now c.args.job.now.rows.now c.args.job.now.claims.now (blocks_of c.args.job.now.claims.now) (draws_of c.lead_next.new.claim) (use_in c.lead_next.new.seat) c.lead_next.new.queues c.lead_next.new.kept c.lead_next.new.groups c.in-Failed.why count c.in-Failed.ensures.step
 
 pub returns-in-NoMore-clause-seat : goal.returns-in-NoMore-clause-seat
 returns-in-NoMore-clause-seat g c = stays_through c.args.job.now.table.now c.args.seat.now c.loop.seat c.lead_next.new.seat c.loop.invariant.stays c.lead_next.ensures.seat

@@ -1,11 +1,10 @@
 use Rattle.std.proofs.Common.{◌≡◌, map}
-use Rattle.std.specs.FinMap as fin
 use Rattle.std.specs.List.{All, AllZip}
 use Rattle.agg_table.specs.Shown.{StaysSeated, use_in}
 use Rattle.parallel_ctx.specs.Tokens.{SameQueues}
 use Rattle.scan_claim.specs.Shown.{Belongs, draws_of, number_of}
 use Rattle.worker_run.specs.Job.{IsSeated}
-use Rattle.gather_run.specs.Leading.{DrawsInOrder, IsLeading}
+use Rattle.gather_run.specs.Leading.{DrawsInOrder, IsKeeping}
 use Rattle.gather_run.specs.Looks.{IsOpen, tuples_of}
 use Rattle.gather_run.proofs.leading.lead_all.Given as goal
 
@@ -18,8 +17,7 @@ invariant-loop g l = record {
   number : number_of l.claim ≡ number_of l.initial.claim;
   seat : IsSeated l.job.region.now l.job.table.now l.seat;
   stays : StaysSeated l.job.table.now l.initial.seat l.seat;
-  empty : l.block_groups ≡ fin.empty;
   open_are : All (IsOpen l.job.region.now) l.queues;
   same : AllZip SameQueues l.initial.queues l.queues;
-  leading : IsLeading l.job.plan.now l.job.rows.now (draws_of l.claim) (use_in l.seat) (map tuples_of l.queues) l.groups;
+  leading : IsKeeping l.job.plan.now l.job.rows.now (draws_of l.claim) (use_in l.seat) (map tuples_of l.queues) l.kept l.groups;
 }

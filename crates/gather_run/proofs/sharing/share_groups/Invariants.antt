@@ -8,5 +8,5 @@ invariant-loop g l = record {
   finite : (goal.iterator-loop g).is_finite l.iterator';
   seat : IsSeat l.part l.seat;
   grew : Grew l.initial.seat l.seat;
-  sharing : IsSharing l.initial.block_groups l.block_groups (use_of l.initial.seat) (use_of l.seat) l.initial.groups l.groups;
+  sharing : IsSharing l.initial.kept l.kept (use_of l.initial.seat) (use_of l.seat) l.initial.groups l.groups;
 }
