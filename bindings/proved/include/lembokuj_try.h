@@ -1,5 +1,5 @@
-/* lembokuj_try.h: queues of messages, and hash tables and barriers that many threads share, over the proved libraries
- * liblk_queue.a, liblk_table.a and liblk_barrier.a.
+/* lembokuj_try.h: queues of messages, and hash tables, barriers and areas of memory that many threads share, over the proved
+ * libraries liblk_queue.a, liblk_table.a, liblk_barrier.a and liblk_area.a.
  *
  * The calls of the libraries try once and never wait. Those with _wait are loops over them here: they spin for a moment,
  * then yield the processor, then nap, half a millisecond at the most. Those with _park sleep until the other side rings a
@@ -8,10 +8,11 @@
  * shared_heap.c. lembokuj.h has more objects; it is built without the proofs. A program that takes both headers includes
  * lembokuj.h first.
  *
- * Handles. An lk_handle (one side of a queue), an lk_table_try (one caller of a table) and an lk_barrier_try (one caller of a
- * barrier) are the program's own memory: two words, all zero (LK_BLANK) before the call that fills them and after the one that closes them. A handle owns what it
- * stands for. Do not copy it, but to move it: of two copies one has to be forgotten. The memory of a queue goes with its
- * second side, that of a table or a barrier with its last caller.
+ * Handles. An lk_handle (one side of a queue), an lk_table_try (one caller of a table), an lk_barrier_try (one caller of a
+ * barrier) and an lk_area_try (one caller of an area) are the program's own memory: two words, all zero (LK_BLANK) before the call
+ * that fills them and after the one that closes them. A handle owns what it stands for. Do not copy it, but to move it: of two
+ * copies one has to be forgotten. The memory of a queue goes with its second side, that of a table, a barrier or an area
+ * with its last caller.
  *
  * Threads. A handle is used by one call at a time; different handles of one object are used at once, each in its thread. A
  * handle may go to another thread by whatever orders the two: a start or join of a thread, a lock, an atomic.
@@ -20,11 +21,11 @@
  * are then, one process uses its own and the other forgets its.
  *
  * Wrong use. A null pointer and a blank handle are LK_NULL, a handle of a queue's other side LK_KIND, a side that has left
- * LK_GONE. A handle whose words are anything else than the last call left there is not found out. No call keeps a pointer
+ * LK_GONE, a number of no chunk of the caller LK_STRANGER. A handle whose words are anything else than the last call left there is not found out. No call keeps a pointer
  * of the program's.
  *
- * Codes. 0 is done, above 0 is an answer, below 0 nothing was sent, received, done to a key or changed at a barrier. Those that lembokuj.h has
- * too have its numbers. */
+ * Codes. 0 is done, above 0 is an answer, below 0 nothing was sent, received, done to a key or changed at a
+ * barrier or of an area. Those that lembokuj.h has too have its numbers. */
 #ifndef LEMBOKUJ_TRY_H
 #define LEMBOKUJ_TRY_H
 
@@ -60,10 +61,12 @@ enum {
     LK_BAD_CALLERS = -6,   /* no callers, more than 4,096, or all of them have handles */
     LK_TOO_LONG = -7,      /* the message is longer than the queue's greatest, or, to be sent whole, than the ring */
     LK_OTHER_MESSAGE = -8, /* a part of another message is on the ring: send that one again first */
-    LK_NO_SPACE = -9,      /* the caller's own words are used up */
+    LK_NO_SPACE = -9,      /* the caller's own words are used up; an area: its pages are */
+    LK_NO_WORD = -10,      /* the chunk has no such words */
     LK_ALREADY_IN = -12,   /* the caller takes part in the barrier already */
     LK_NOT_IN = -13,       /* the caller takes no part in the barrier */
     LK_TWICE = -14,        /* the caller has arrived in this phase already */
+    LK_STRANGER = -32,     /* the caller has no chunk of this number */
 };
 
 /* A flag of the sends: the receiver may see the message only after a later call. At most a quarter of the ring stays
@@ -78,7 +81,7 @@ enum {
     LK_GONE = -17,         /* this side has left */
     LK_SHORT_BUFFER = -18, /* the program's bytes have no room for the queue's greatest message */
     LK_IN_USE = -19,       /* a handle is not blank, or both pointers are one */
-    LK_STILL_IN = -20,     /* lk_raw_queue_close: this side has not left yet */
+    LK_STILL_IN = -20,     /* lk_raw_queue_close: this side has not left yet; a close of an area: the caller has chunks */
     LK_SIDE_TAKEN = -21,   /* somebody else has this side of a queue in given memory */
 };
 
@@ -642,6 +645,147 @@ static inline int lk_barrier_await_wait(lk_barrier_try *barrier, lk_phase *told)
 static inline int lk_barrier_wait_all(lk_barrier_try *barrier, lk_phase *told) {
     int code = lk_barrier_arrive_wait(barrier, told);
     return code == LK_WAITING ? lk_barrier_await_wait(barrier, told) : code;
+}
+
+/* ---- Areas: memory that many callers take and give back, in chunks of words ----
+ *
+ * A caller names its chunks by numbers, which the area gives out: a number may come again once its chunk was freed. The words of
+ * a chunk are its caller's own, and are read and written by the calls here: no call ever touches another caller's chunk. An
+ * area has pages of 4,096 bytes. Chunks of up to 8,192 bytes are cut from 16 pages at a time for each of 36 size classes;
+ * such 16 pages go back when all of their chunks have, but for the last ones of each class, which go back by a trim. Larger
+ * chunks are whole pages. */
+
+typedef struct lk_area_try {
+    void *at;
+    uint64_t full;
+} lk_area_try;
+
+/* The numbers of the size classes: from LK_FIRST_CLASS on, below LK_END_CLASS. */
+enum { LK_FIRST_CLASS = 2, LK_END_CLASS = 38 };
+
+/* What liblk_area.a exports. Each pointer has to be good, and the two handles of lk_raw_area_share have to differ. */
+int32_t lk_raw_area_new(uint32_t callers, uint32_t pages, lk_area_try *first);
+int32_t lk_raw_area_share(lk_area_try *from, lk_area_try *next);
+int32_t lk_raw_area_alloc(lk_area_try *area, uint64_t wanted, uint64_t *number, uint64_t *bytes);
+int32_t lk_raw_area_free(lk_area_try *area, uint64_t number);
+int32_t lk_raw_area_trim(lk_area_try *area, uint32_t size_class);
+int32_t lk_raw_area_usage(lk_area_try *area, uint32_t *used, uint32_t *largest);
+int32_t lk_raw_area_read(lk_area_try *area, uint64_t number, uint64_t from, uint64_t *out, size_t count);
+int32_t lk_raw_area_write(lk_area_try *area, uint64_t number, uint64_t from, const uint64_t *words, size_t count);
+int32_t lk_raw_area_bytes_of(lk_area_try *area, uint64_t number, uint64_t *bytes);
+int32_t lk_raw_area_next(lk_area_try *area, uint64_t from, uint64_t *number);
+int32_t lk_raw_area_size(lk_area_try *area, uint64_t *bytes);
+int32_t lk_raw_area_close(lk_area_try *area);
+
+/* An area of this number of pages, 65,536 at most, for this number of callers, and a handle of the first one. The handle has
+ * to be blank. It takes some 8.1 KiB a page, and half as much again while it is made. LK_BAD_SIZE, LK_BAD_CALLERS,
+ * LK_NO_MEMORY, LK_IN_USE. */
+static inline int lk_area_new_try(uint32_t callers, uint32_t pages, lk_area_try *first) {
+    return first ? lk_raw_area_new(callers, pages, first) : LK_NULL;
+}
+
+/* A handle of a further caller. It has to be blank. LK_BAD_CALLERS if all callers have handles, LK_IN_USE; LK_NO_MEMORY,
+ * and then the further caller may be lost. */
+static inline int lk_area_share_try(lk_area_try *from, lk_area_try *next) {
+    if (!from || !next) return LK_NULL;
+    if (from == next) return LK_IN_USE;
+    return lk_raw_area_share(from, next);
+}
+
+/* A chunk of at least this number of bytes, 1 to 2^30, whatever its words hold: *number is its number, and *bytes (which may be
+ * NULL) is how many bytes it has: of a size class, above 24 bytes at most a third more than was wanted, and above 8,192 of
+ * whole pages. LK_WOULD_BLOCK: call again. LK_NO_SPACE: no such pages are free. LK_BAD_SIZE. LK_NO_MEMORY: none for the
+ * chunk's number, and nothing was done. */
+static inline int lk_area_alloc_try(lk_area_try *area, uint64_t wanted, uint64_t *number, uint64_t *bytes) {
+    uint64_t none = 0;
+    return area && number ? lk_raw_area_alloc(area, wanted, number, bytes ? bytes : &none) : LK_NULL;
+}
+
+/* Gives a chunk back. LK_WOULD_BLOCK: call again. LK_STRANGER: the caller has no chunk of this number. */
+static inline int lk_area_free_try(lk_area_try *area, uint64_t number) {
+    return area ? lk_raw_area_free(area, number) : LK_NULL;
+}
+
+/* Gives the last 16 pages of a size class back, if no chunk of them is in use. LK_ABSENT: there are none such.
+ * LK_WOULD_BLOCK: call again. LK_BAD_SIZE: no such class. */
+static inline int lk_area_trim_try(lk_area_try *area, uint32_t size_class) {
+    return area ? lk_raw_area_trim(area, size_class) : LK_NULL;
+}
+
+/* How many pages are granted, those from which chunks are cut among them, and the longest run of free ones. Either pointer
+ * may be NULL. LK_WOULD_BLOCK: call again. */
+static inline int lk_area_usage_try(lk_area_try *area, uint32_t *used, uint32_t *largest) {
+    uint32_t none = 0, nothing = 0;
+    return area ? lk_raw_area_usage(area, used ? used : &none, largest ? largest : &nothing) : LK_NULL;
+}
+
+/* The same calls, again and again as long as another caller is at the area. */
+static inline int lk_area_alloc_wait(lk_area_try *area, uint64_t wanted, uint64_t *number, uint64_t *bytes) {
+    int code;
+    for (unsigned tries = 0; (code = lk_area_alloc_try(area, wanted, number, bytes)) == LK_WOULD_BLOCK; tries++) lk_between(tries);
+    return code;
+}
+
+static inline int lk_area_free_wait(lk_area_try *area, uint64_t number) {
+    int code;
+    for (unsigned tries = 0; (code = lk_area_free_try(area, number)) == LK_WOULD_BLOCK; tries++) lk_between(tries);
+    return code;
+}
+
+static inline int lk_area_trim_wait(lk_area_try *area, uint32_t size_class) {
+    int code;
+    for (unsigned tries = 0; (code = lk_area_trim_try(area, size_class)) == LK_WOULD_BLOCK; tries++) lk_between(tries);
+    return code;
+}
+
+static inline int lk_area_usage_wait(lk_area_try *area, uint32_t *used, uint32_t *largest) {
+    int code;
+    for (unsigned tries = 0; (code = lk_area_usage_try(area, used, largest)) == LK_WOULD_BLOCK; tries++) lk_between(tries);
+    return code;
+}
+
+/* The calls from here on never meet another caller, and so never answer LK_WOULD_BLOCK. */
+
+/* Reads or writes words of a chunk, from its word `from` on. LK_STRANGER: the caller has no chunk of this number. LK_NO_WORD:
+ * the chunk has no such words. After any code but LK_OK nothing was read or written. */
+static inline int lk_area_read(lk_area_try *area, uint64_t number, uint64_t from, uint64_t *out, size_t count) {
+    uint64_t none = 0;
+    return area && (out || !count) ? lk_raw_area_read(area, number, from, out ? out : &none, count) : LK_NULL;
+}
+
+static inline int lk_area_write(lk_area_try *area, uint64_t number, uint64_t from, const uint64_t *words, size_t count) {
+    uint64_t none = 0;
+    return area && (words || !count) ? lk_raw_area_write(area, number, from, words ? words : &none, count) : LK_NULL;
+}
+
+/* How many bytes a chunk has. LK_STRANGER. */
+static inline int lk_area_bytes_of(lk_area_try *area, uint64_t number, uint64_t *bytes) {
+    return area && bytes ? lk_raw_area_bytes_of(area, number, bytes) : LK_NULL;
+}
+
+/* The number of the caller's next chunk, from a number on. LK_ABSENT: it has none from there on. */
+static inline int lk_area_next(lk_area_try *area, uint64_t from, uint64_t *number) {
+    return area && number ? lk_raw_area_next(area, from, number) : LK_NULL;
+}
+
+/* The bytes of all pages of the area. */
+static inline int lk_area_size(lk_area_try *area, uint64_t *bytes) {
+    return area && bytes ? lk_raw_area_size(area, bytes) : LK_NULL;
+}
+
+/* The caller goes, and the handle is blank then. LK_STILL_IN: it has chunks, and stays. */
+static inline int lk_area_close_try(lk_area_try *area) {
+    return area ? lk_raw_area_close(area) : LK_NULL;
+}
+
+/* Gives all of the caller's chunks back, and then closes. LK_STRANGER: the area handed one back, and the caller stays. */
+static inline int lk_area_close_wait(lk_area_try *area) {
+    uint64_t number = 0;
+    int code;
+    while ((code = lk_area_next(area, number, &number)) == LK_OK) {
+        if ((code = lk_area_free_wait(area, number)) != LK_OK) return code;
+    }
+    return code == LK_ABSENT ? lk_area_close_try(area) : code;
 }
 
 #ifdef __cplusplus

@@ -1,0 +1,11 @@
+pub mod Answered
+pub mod Asks
+pub mod Chunks
+pub mod Handles
+pub mod Keeping
+pub mod Lists
+pub mod Owned
+pub mod Pools
+pub mod Rows
+pub mod Served
+pub mod Turns

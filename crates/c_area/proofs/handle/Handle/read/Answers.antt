@@ -1,0 +1,13 @@
+use Rattle.std.proofs.Common.{Option, sym, subst}
+use Rattle.c_area.specs.Calls.{Reads}
+use Rattle.c_area.specs.Tries as try
+use Rattle.c_area.specs.declared.shared.Share.{Share}
+use Rattle.c_area.proofs.Handles.{of_taken}
+use Rattle.c_area.proofs.handle.Handle.read.Goals as goal
+
+pub returns : goal.returns
+returns c =
+    let t = c.read-code.new.self in
+    let code = c.read-code.result in
+    of_taken (λ (o : Option Share). Reads o c.put.new.self.value c.args.number c.args.from c.args.out.now c.read-code.new.out code) c.args.self.now.value c.in-Some.caller.value (sym c.in-Some.ensures.caller)
+    (t, c.put.ensures, subst (λ (s : Share). try.Reads s t c.args.number c.args.from c.args.out.now c.read-code.new.out code) c.deref_mut.ensures.value c.read-code.ensures)

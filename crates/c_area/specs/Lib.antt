@@ -1,0 +1,12 @@
+pub mod States
+pub mod Legal
+pub mod Arenas
+pub mod Asked
+pub mod Numbers
+pub mod Shares
+pub mod Tries
+pub mod Made
+pub mod ArenaCode
+pub mod Codes
+pub mod Owned
+pub mod Calls
