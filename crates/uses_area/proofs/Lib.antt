@@ -1,1 +1,1 @@
-pub mod Pools
+pub mod Fronts

@@ -3,7 +3,6 @@
 
 mod forms;
 mod plans;
-mod slow;
 mod tables;
 mod workers;
 

@@ -3,7 +3,7 @@ use Rattle.word_map.specs.WordMap.{HasJust}
 use Rattle.free_pages.specs.Area.{class_count, class_end, control_words, front, head_words, mark_words, page_words}
 use Rattle.free_pages.proofs.AreaWords.{cut_just, cut_owns}
 use Rattle.span_pools.proofs.Fits.{bits_before}
-use Rattle.uses_area.proofs.Pools.{cut_front}
+use Rattle.uses_area.proofs.Fronts.{cut_front}
 use Rattle.uses_area.proofs.objects.area.Goals as goal
 
 start_same : (f g i k m n : ℕ) → f ≡ g → i ≡ k → m ≡ n → f - (class_end - i) * m ≡ g - (class_end - k) * n
