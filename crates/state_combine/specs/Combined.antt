@@ -1,0 +1,35 @@
+-- Several files as one.
+use Rattle.std.specs.Prelude.{◌≡◌, ℕ, List, [], All, length}
+use Rattle.std.specs.FinMap as map
+use Rattle.partial_agg.specs.Groups.{GroupsByKey}
+use Rattle.partial_agg.specs.Listed.{listed}
+use Rattle.state_blocks.specs.Blocks.{Group}
+use Rattle.state_body.specs.Body.{IsBody}
+use Rattle.state_cover.specs.Bytes.{had}
+use Rattle.state_cover.specs.Faults.{IsNoCover}
+use Rattle.state_front.specs.Front.{front_bytes}
+use Rattle.state_head.specs.Cover.{IsCover}
+use Rattle.state_head.specs.Head.{Subject}
+use Rattle.state_head.specs.Words.{Keys}
+use Rattle.state_head.specs.declared.cover.Stretch.{Stretch}
+use Rattle.state_save.specs.Saving.{AreTuplesOf, IsTold}
+use Rattle.state_total.specs.Total.{IsCounted}
+use Rattle.state_whole.specs.Files.{StateFile, tuples_in}
+use Rattle.state_whole.specs.declared.adding.Shape.{Shape}
+use Rattle.state_combine.specs.declared.combining.CombineFault.{CombineFault}
+use Rattle.state_combine.specs.declared.combining.CombineFault.TheVariants as fault
+
+-- a file of a map of groups, and of the cover of some stretches; if a row of these is refused, it has no groups
+pub record IsCombined (shape : Shape) (subject : Subject) (keys : Keys) (m : GroupsByKey) (stretches : List Stretch) (f : StateFile) : Type 0 where
+  pub subject_is : f.preface.subject ≡ subject
+  pub keys_are : f.preface.keys ≡ keys
+  pub is_cover : IsCover subject.sources f.preface.cover
+  pub bytes : (source at : ℕ) → had source at f.preface.cover ≡ had source at stretches
+  pub counted : All IsCounted f.preface.cover → AreTuplesOf shape (listed m) (tuples_in f)
+  pub refused : (All IsCounted f.preface.cover → ⊥) → tuples_in f ≡ []
+  pub is_body : All (IsTold shape) (listed m) → IsBody shape.columns shape.kinds.now (length (front_bytes f.preface)) f.blocks
+
+-- why they are not written
+abbrev pub IsNotCombined : List Stretch → CombineFault → Type 0
+IsNotCombined stretches (fault.Cover why) = IsNoCover stretches why
+IsNotCombined stretches (fault.Write why) = Unit {0}

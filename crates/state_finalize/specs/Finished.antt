@@ -1,0 +1,35 @@
+-- What all files come to: the text of a table, or a refused row.
+use Rattle.std.specs.Prelude.{ℕ, List, [], ◌∷◌, All}
+use Rattle.par_model.specs.Named.{NamedPlan}
+use Rattle.par_model.specs.Plan.{Plan}
+use Rattle.partial_agg.specs.Groups.{GroupsByKey}
+use Rattle.partial_agg.specs.Listed.{listed}
+use Rattle.result_text.specs.Pieces.{joined}
+use Rattle.result_text.specs.Text.{AreLinesOf, IsTextOf}
+use Rattle.state_head.specs.declared.cover.Stretch.{Stretch}
+use Rattle.state_total.specs.Total.{IsCounted, IsFirstRefused, IsNoTotal, IsWholeCover}
+use Rattle.state_finalize.specs.declared.finishing.FinishFault.{FinishFault}
+use Rattle.state_finalize.specs.declared.finishing.FinishFault.TheVariants as fault
+use Rattle.state_finalize.specs.declared.finishing.Finished.{Finished}
+use Rattle.state_finalize.specs.declared.finishing.Finished.TheVariants.{Refused, Table}
+
+-- the text of some groups: the table, or its lines only
+abbrev pub IsTextFrom : NamedPlan → Plan → List ℕ → GroupsByKey → List ℕ → Type 0
+IsTextFrom names plan [] m text = IsTextOf names plan (listed m) text
+IsTextFrom names plan (byte ∷ low) m text = AreLinesOf plan (listed m) text
+
+-- what a map of groups and a cover of all bytes come to
+abbrev pub ComesTo : NamedPlan → Plan → List ℕ → GroupsByKey → List Stretch → Finished → Type 0
+ComesTo names plan low m cover (Table pieces) = All IsCounted cover × IsTextFrom names plan low m (joined pieces.items)
+ComesTo names plan low m cover (Refused row) = IsFirstRefused cover row
+
+-- the stretches of all files are all bytes of so many sources, each once, and this is what they come to
+pub record IsFinished (names : NamedPlan) (plan : Plan) (low : List ℕ) (sources : ℕ) (m : GroupsByKey) (stretches : List Stretch) (f : Finished) : Type 0 where
+  pub cover : List Stretch
+  pub is_whole : IsWholeCover sources stretches cover
+  pub comes_to : ComesTo names plan low m cover f
+
+-- why they come to nothing
+abbrev pub IsNotFinished : ℕ → List Stretch → FinishFault → Type 0
+IsNotFinished sources stretches fault.Memory = Unit {0}
+IsNotFinished sources stretches (fault.Total why) = IsNoTotal sources stretches why

@@ -1,0 +1,89 @@
+//! The end of a query in parts: if the stretches of all files are all bytes of all sources, each once, the text of their groups.
+
+ghost use Rattle.std.specs.Prelude.{◌≡◌, All, IfErr, IfOk};
+ghost use Rattle.partial_agg.specs.Groups.{GroupsByKey};
+ghost use Rattle.partial_agg.specs.Listed.{listed};
+ghost use Rattle.result_text.specs.Pieces.{joined};
+ghost use Rattle.result_text.specs.Printable.{ArePrintable, IsBoundFrom};
+ghost use Rattle.state_finalize.specs.Finished.{IsFinished, IsNotFinished, IsTextFrom};
+ghost use Rattle.state_head.specs.Cover.{IsStretch};
+
+use par_model::BoundPlan;
+use partial_agg::Groups;
+use plan_spec::Plan;
+use result_text::{behind, lines_text, text_in_threads};
+use state_head::{KeyRange, Whole};
+use state_total::{FirstRefused, TotalFault, first_refused, whole_cover};
+use state_whole::Sum;
+use std::alloc::{AllocError, Global};
+use std::thread::Threads;
+
+/// What all files come to: the text of the table in pieces, one after another, or the first refused row.
+#[derive(Drop)]
+pub enum Finished {
+    Table(Vec<Vec<u8>>),
+    Refused(FirstRefused),
+}
+
+/// Why files come to nothing: memory ran out; their stretches are not all bytes, each once, as `why` says.
+#[derive(Clone, Copy, Debug, PartialEq, Eq)]
+pub enum FinishFault {
+    Memory,
+    Total { why: TotalFault },
+}
+
+/// What the sum of all files comes to, if they say this of themselves. Files of a range of keys that has a low end give the lines of
+/// that range, without a header, so that the texts of ranges, one after another, are the table. The lines are shared out to at most
+/// this many threads, the caller's among them; memory and time are those of [`text_in_threads`].
+pub fn finish<R: Threads + Sync>(
+    rt: &R,
+    alloc: Global,
+    plan: &Plan,
+    bound: &BoundPlan,
+    whole: Whole<'_>,
+    range: KeyRange<'_>,
+    sum: Sum,
+    threads: usize,
+) -> Result<Finished, FinishFault>
+    requires bound { IsBoundFrom plan.now.plan bound.now }
+    requires printable { ArePrintable bound.now (listed sum.map) }
+    requires stretches { All (IsStretch whole.sources) sum.cover.items }
+    ensures finished { IfOk result (IsFinished plan.now.plan bound.now range.low.now whole.sources sum.map sum.cover.items) }
+
+    // When each error comes.
+    ensures refused { IfErr result (IsNotFinished whole.sources sum.cover.items) }
+{
+    let (map, mut stretches) = sum.into_parts();
+    let cover = match whole_cover(alloc, &mut stretches, whole.sources) {
+        Ok(cover) => cover,
+        Err(why) => return Err(FinishFault::Total { why }),
+    };
+    if let Some(row) = first_refused(cover.as_slice()) {
+        return Ok(Finished::Refused(row));
+    }
+    match text_from(rt, alloc, plan, bound, range.low, &map.into_groups(), threads) {
+        Ok(text) => Ok(Finished::Table(text)),
+        Err(AllocError) => Err(FinishFault::Memory),
+    }
+}
+
+/// The text of some groups in pieces: the table, or if there is a low end its lines only.
+fn text_from<R: Threads + Sync>(
+    rt: &R,
+    alloc: Global,
+    plan: &Plan,
+    bound: &BoundPlan,
+    low: &[u8],
+    groups: &Groups,
+    threads: usize,
+) -> Result<Vec<Vec<u8>>, AllocError>
+    requires bound { IsBoundFrom plan.now.plan bound.now }
+    requires printable { ArePrintable bound.now groups.now }
+    ensures { IfOk result (λ pieces. (m : GroupsByKey) → groups.now ≡ listed m → IsTextFrom plan.now.plan bound.now low.now m (joined pieces.items)) }
+{
+    if low.is_empty() {
+        return text_in_threads(rt, alloc, plan, bound, groups, threads);
+    }
+    let lines = lines_text(alloc, bound, groups)?;
+    behind(alloc, lines, Vec::new(alloc))
+}

@@ -1,0 +1,7 @@
+mod Adds
+mod Bodies
+mod Bounds
+mod Files
+mod Refusals
+mod Runs
+mod Subjects

@@ -1,0 +1,41 @@
+use Rattle.std.proofs.Common.{◌≡◌, ◌++◌, ◌∙◌, [], List, ap, refl}
+use Rattle.state_body.specs.Body.{groups_of}
+use Rattle.state_head.specs.Words.{keys_of}
+use Rattle.state_head.specs.declared.cover.Stretch.{Stretch}
+use Rattle.state_whole.proofs.Bodies.{none_has}
+use Rattle.state_whole.proofs.Files.{past_bound, sum_few, summed}
+use Rattle.state_whole.proofs.files.Sum.add_groups.Goals as goal
+
+-- what was put at the end of a list
+slices : (old cover more slice : List Stretch) → old ≡ cover → slice ≡ more → old ++ slice ≡ cover ++ more
+slices old cover more slice e f = ap (λ (xs : List Stretch). xs ++ slice) e ∙ ap (λ (xs : List Stretch). cover ++ xs) f
+
+pub returns-in-Err-clause-refused : goal.returns-in-Err-clause-refused
+returns-in-Err-clause-refused c = λ m cover bs is all e.
+    let shape = c.args.shape.now in
+    let range = keys_of c.args.front.now.head.range in
+    c.in-Err.ensures m range [] bs (none_has shape range m c.args.self.now.map c.new-order.result _ is.map_is refl c.new-order.ensures) all e
+
+pub returns-in_default-clause-refused : goal.returns-in_default-clause-refused
+returns-in_default-clause-refused c = λ m cover bs is all e.
+    let shape = c.args.shape.now in
+    let range = keys_of c.args.front.now.head.range in
+    let did = c.in-Ok.ensures m range [] bs (none_has shape range m c.args.self.now.map c.new-order.result _ is.map_is refl c.new-order.ensures) all e in
+    past_bound shape range m c.add_blocks.new.map (groups_of bs) c.add_blocks.new.order c.add_blocks.new.count did c.in_default.ensures.past
+
+pub returns-in-Ok-extend_from_slice-clause-order : goal.returns-in-Ok-extend_from_slice-clause-order
+returns-in-Ok-extend_from_slice-clause-order c = λ bs all e.
+    let shape = c.args.shape.now in
+    let range = keys_of c.args.front.now.head.range in
+    let m = c.args.self.now.map in
+    let did = c.in-Ok.ensures m range [] bs (none_has shape range m m c.new-order.result _ refl refl c.new-order.ensures) all e in
+    did.keys.are
+
+pub returns-in-Ok-extend_from_slice-clause-sum : goal.returns-in-Ok-extend_from_slice-clause-sum
+returns-in-Ok-extend_from_slice-clause-sum c = λ m cover bs is all e.
+    let shape = c.args.shape.now in
+    let range = keys_of c.args.front.now.head.range in
+    let did = c.in-Ok.ensures m range [] bs (none_has shape range m c.args.self.now.map c.new-order.result _ is.map_is refl c.new-order.ensures) all e in
+    let few = sum_few shape range m c.add_blocks.new.map cover c.args.self.now (groups_of bs) c.add_blocks.new.order c.add_blocks.new.count is did in
+    summed shape range m c.add_blocks.new.map cover c.args.front.now.head.cover.items _ _ (groups_of bs) c.add_blocks.new.order c.add_blocks.new.count c.in-Some.most did refl refl
+    (c.in-Ok-extend_from_slice.ensures.items ∙ slices c.args.self.now.cover.items cover c.args.front.now.head.cover.items c.as_slice.result.now is.cover_is c.as_slice.ensures.value) refl c.in-Some.ensures.few (c.in-Some.ensures.bound few)

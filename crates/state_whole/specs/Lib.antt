@@ -1,0 +1,4 @@
+pub mod Adding
+pub mod Alike
+pub mod Files
+pub mod Sums
