@@ -1,11 +1,10 @@
 -- The groups of a file in a map: what no group has more rows than afterwards.
 use Rattle.std.proofs.Common.{◌≡◌, ◌<◌, ◌≤◌, ◌+◌, ◌%◌, ◌^◌, ◌∙◌, ◌⊎◌, ℕ, Bool, true, false, List, [], ◌∷◌, All, None, Option, Some, ap, arith, cond, fold, inl, inr, length, map, refl, subst, sym}
-use Rattle.std.specs.Cmp.{eq_by_cmp}
 use Rattle.std.specs.Cmp.Lexicographic.{nat_list_cmp_total}
 use Rattle.std.specs.FinMap as finite
 use Rattle.std.specs.List.{AllByRecursion}
 use Rattle.std.specs.List.Sorted.{IsStrictlySortedBy}
-use Rattle.std.specs.Ordering.{ordering_reverse}
+use Rattle.std.specs.Ordering.{eq_by_cmp, ordering_reverse}
 use Rattle.std.specs.declared.cmp.Ordering.{Ordering}
 use Rattle.std.specs.declared.cmp.Ordering.TheVariants.{Equal, Greater, Less}
 use Rattle.std.proofs.Math.Nat.{mod-le}
@@ -141,3 +140,10 @@ sum_bound columns shape m gs a b all rise few =
       all = λ k v e. let h = has k v e in omega (arith, h);
       these = λ k v among e. has k v e;
     }))
+
+-- no groups are few
+pub none_bound : (n : ℕ) → All (λ (g : MapGroup). g.state.rows ≤ n) (listed finite.empty)
+none_bound n = listed_of finite.empty n (λ k v e. absurd (no_some v (sym (finite.get-empty key_cmp k) ∙ e)))
+  where
+    no_some : (v : AggState) → None ≡ Some v → ⊥
+    no_some v e = cc

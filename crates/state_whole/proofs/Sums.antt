@@ -1,5 +1,6 @@
 -- Why a file is not added, by its parts.
-use Rattle.std.proofs.Common.{◌≡◌, ◌≤◌, ◌+◌, ◌^◌, ◌++◌, ◌∙◌, ℕ, List, All, arith, subst, sym}
+use Rattle.std.proofs.Common.{◌≡◌, ◌≤◌, ◌+◌, ◌^◌, ◌++◌, ◌∙◌, ℕ, List, [], All, arith, subst, sym}
+use Rattle.std.specs.FinMap as finite
 use Rattle.partial_agg.specs.Groups.{GroupsByKey}
 use Rattle.partial_agg.specs.Listed.{listed}
 use Rattle.partial_agg.specs.declared.groups.Group.{Group as MapGroup}
@@ -16,7 +17,7 @@ use Rattle.state_whole.specs.declared.adding.Shape.{Shape}
 use Rattle.state_whole.specs.declared.files.FileFault.{FileFault}
 use Rattle.state_whole.specs.declared.files.FileFault.TheVariants as fault
 use Rattle.state_whole.specs.declared.files.Sum.{Sum}
-use Rattle.state_whole.proofs.Bodies.{sum_bound}
+use Rattle.state_whole.proofs.Bodies.{none_bound, sum_bound}
 
 -- its body
 pub no_groups : (shape : Shape) (m : GroupsByKey) (front : Preface) (at : ℕ) (bytes : List ℕ) (why : FileFault) → HasNoGroups shape front at bytes why → IsNoFile shape m front at bytes why
@@ -33,6 +34,11 @@ not_added shape m front at bytes has (fault.Body why) none = absurd none
 not_added shape m front at bytes has (fault.Group why) none = (has, none)
 not_added shape m front at bytes has fault.Refused none = absurd none
 not_added shape m front at bytes has fault.Rows none = (has, none)
+
+-- ---- no files
+
+pub begun : (sum : Sum) → sum.map ≡ finite.empty → sum.cover.items ≡ [] → sum.most ≤ 2 ^ 50 → AreSummed finite.empty [] sum
+begun sum map_is cover_is few = record { map_is = map_is; cover_is = cover_is; most = few; bound = none_bound sum.most }
 
 -- ---- the sum after a file
 

@@ -5,6 +5,7 @@
 //! were made of rows, cost nothing for it.
 
 ghost use Rattle.std.specs.Prelude.{◌≡◌, ◌<◌, ◌+◌, ◌^◌, ◌++◌, [], ℕ, List, All, IfErr, IfOk, IsTrue, OnOk, false, length, map as map_list};
+ghost use Rattle.std.specs.FinMap as fin;
 ghost use Rattle.partial_agg.specs.Groups.{GroupsByKey};
 ghost use Rattle.state_blocks.specs.Blocks.{Group, IsBlock, blocks_bytes};
 ghost use Rattle.state_body.specs.Body.{IsBody, body_bytes, groups_of};
@@ -44,7 +45,7 @@ pub struct Sum {
 impl Sum {
     /// No files.
     pub fn new(alloc: Global) -> Sum
-        ensures { AreSummed [] [] result }
+        ensures { AreSummed fin.empty [] result }
     {
         Sum {
             map: GroupMap::new(alloc),

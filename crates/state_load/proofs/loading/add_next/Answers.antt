@@ -27,7 +27,7 @@ returns-in-Ok-clause-added c = λ m cover is.
     let read = c.in_ok-front.ensures.read in
     let did = c.in-Ok.ensures.read in
     let sum = c.in-Ok.ensures.sum m cover did.0 c.in-Ok.rest.now is did.1.is_body did.2 in
-    is_part shape (subject_of c.args.whole) (keys_of c.args.range) m cover c.args.bytes.now c.in_ok-front.front c.in-Ok.rest.now did.0 c.add_file.new.sum read did.1 did.2 sum.1
+    is_part shape (subject_of c.args.whole) (keys_of c.args.range) m cover c.args.bytes.now c.in_ok-front.front c.in-Ok.rest.now did.0 c.add_file.new.self read did.1 did.2 sum.1
 
 pub returns-in-Ok-clause-written : goal.returns-in-Ok-clause-written
 returns-in-Ok-clause-written c = λ m cover f rest is part e.
@@ -37,7 +37,7 @@ returns-in-Ok-clause-written c = λ m cover f rest is part e.
     let same = c.in_ok-front.ensures.written f.preface (body ++ rest) part.is_file.is_front part.is_alike.subject_is part.is_alike.keys_are (e ∙ file_is shape f rest) in
     let w = was_written shape (subject_of c.args.whole) (keys_of c.args.range) c.args.bytes.now f c.in_ok-front.front rest read part same.0 same.1 in
     let sum = c.in-Ok.ensures.sum m cover f.blocks rest is w.is_body w.is in
-    (sum.0, subst (λ (p : Preface). AreSummed (sum_with shape m (groups_of f.blocks)) (cover ++ p.cover) c.add_file.new.sum) same.0 sum.1)
+    (sum.0, subst (λ (p : Preface). AreSummed (sum_with shape m (groups_of f.blocks)) (cover ++ p.cover) c.add_file.new.self) same.0 sum.1)
 
 pub returns-in-Ok-clause-shorter : goal.returns-in-Ok-clause-shorter
 returns-in-Ok-clause-shorter c =

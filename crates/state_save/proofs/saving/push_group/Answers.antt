@@ -37,7 +37,7 @@ returns-clause-taken c = λ start tuples written has.
     let shape = c.args.shape.now in
     let groups = c.args.groups.now in
     let same = same_tuple shape groups c.args.group c.state-state.result (take (length shape.lanes.now) c.lane_slots-found.result) (get_or_from_slice_get (map (λ (g : MapGroup). g.state) groups) c.args.group.at c.state-state.result empty_state c.state-state.ensures) c.lane_slots-found.ensures in
-    on_ok_weaker c.push.result (subst (λ (g : Group). Goes shape.kinds.now start (tuples ++ g ∷ []) written c.args.out.now.items c.push.new.out.items c.push.new.writer) same) (c.push.ensures.taken start tuples written has)
+    on_ok_weaker c.push.result (subst (λ (g : Group). Goes shape.kinds.now start (tuples ++ g ∷ []) written c.args.out.now.items c.push.new.out.items c.push.new.self) same) (c.push.ensures.taken start tuples written has)
 
 pub returns-clause-long : goal.returns-clause-long
 returns-clause-long c = λ start tuples written has e fit.

@@ -1,4 +1,4 @@
-use Rattle.std.proofs.Common.{◌≡◌, sym}
+use Rattle.std.proofs.Common.{◌≡◌, arith}
 use Rattle.state_head.specs.Head.{subject_of}
 use Rattle.state_head.specs.Words.{words_of}
 use Rattle.state_whole.proofs.Subjects.{fails, same_subject}

@@ -13,8 +13,8 @@ returns-then-has_both-clause-refused c =
       subst HasRefused c.as_slice.ensures.value both.1,
     )
 
-pub returns-in-Ok-clause-read : goal.returns-in-Ok-clause-read
-returns-in-Ok-clause-read c =
+pub returns-else-has_both-clause-read : goal.returns-else-has_both-clause-read
+returns-else-has_both-clause-read c =
     let read = c.in-Ok.ensures.read in (
       read.0,
       read.1,
@@ -23,7 +23,7 @@ returns-in-Ok-clause-read c =
       λ some bad. c.has_both.ensures.not_both c.if-has_both.false (subst (λ (n : ℕ). 0 < n) (sym read.4) some) (subst HasRefused (sym c.as_slice.ensures.value) bad),
     )
 
-pub returns-in-Ok-clause-written : goal.returns-in-Ok-clause-written
-returns-in-Ok-clause-written c = λ blocks rest is e.
+pub returns-else-has_both-clause-written : goal.returns-else-has_both-clause-written
+returns-else-has_both-clause-written c = λ blocks rest is e.
     let w = c.in-Ok.ensures.written blocks rest is e in
     (w.0, w.1)

@@ -8,8 +8,8 @@ loop-at-init c = none_most c.lent-groups.result
 
 pub loop-at-preserved : goal.loop-at-preserved
 loop-at-preserved c =
-    let one = c.larger.ensures in
-    most_more c.lent-groups.result c.loop-at.at c.loop-at.most c.read_state.new.state.rows c.larger.result c.loop-at.invariant c.read_state.ensures.rows one.first one.second one.one
+    let one = c.larger-most.ensures in
+    most_more c.lent-groups.result c.loop-at.at c.loop-at.most c.read_state.new.state.rows c.larger-most.result c.loop-at.invariant c.read_state.ensures.rows one.first one.second one.one
 
 pub returns-clause-bound : goal.returns-clause-bound
 returns-clause-bound c =
