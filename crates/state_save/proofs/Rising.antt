@@ -1,6 +1,6 @@
 -- The groups of a map, in the order of their columns, are tuples in the order of the table.
 use Rattle.std.proofs.Common.{◌≡◌, ◌≤◌, ◌∙◌, ℕ, List, [], ◌∷◌, All, ap, bytes_eq, false, get_or, length, map, refl, subst, sym}
-use Rattle.std.proofs.lemmas.List.{map-map}
+use Rattle.std.proofs.lemmas.Simd.{map-map}
 use Rattle.std.proofs.lemmas.List.Sorted.{IsPermutation-map}
 use Rattle.std.proofs.lemmas.Map.Text.{is_eq-slice_cmp}
 use Rattle.std.specs.List.{AllByRecursion, IsDistinct}

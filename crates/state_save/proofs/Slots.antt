@@ -1,6 +1,8 @@
 -- The slots that a file has of a state which a tuple tells are slots that rows can give.
-use Rattle.std.proofs.Common.{◌≡◌, ◌++◌, ◌-◌, ℕ, Bool, true, false, List, [], ◌∷◌, None, Option, Some, arith, length, map, refl, replicate, subst, sym}
-use Rattle.std.proofs.lemmas.Bool.{cond_both, false≢true}
+use Rattle.std.proofs.Common.{◌≡◌, ◌==◌, ◌&&◌, ◌++◌, ◌-◌, ◌∙◌, ℕ, pos, Bool, true, false, List, [], ◌∷◌, None, Option, Some, ap, arith, length, map, refl, replicate, subst, sym}
+use Rattle.std.proofs.lemmas.Bool.{cond_both, eqb-true, false≢true}
+use Rattle.std.proofs.lemmas.Int.{fits_signed_from_abs, ints}
+use Rattle.std.specs.Int.{w64}
 use Rattle.std.specs.Option.{option_map_or}
 use Rattle.par_model.specs.Aggregate.{no_values}
 use Rattle.par_model.specs.declared.plan.Item.{Item}
@@ -8,17 +10,33 @@ use Rattle.par_model.specs.declared.state.SlotState.{SlotState}
 use Rattle.partial_agg.specs.declared.groups.Group.{Group as MapGroup}
 use Rattle.state_blocks.specs.Blocks.{IsTuple}
 use Rattle.state_groups.specs.Group.{AreSlots}
-use Rattle.state_groups.specs.Slot.{IsSlot}
-use Rattle.state_groups.proofs.Slots.{none_are_integers}
+use Rattle.state_groups.specs.Slot.{IsOfIntegers, IsSlot}
 use Rattle.state_lanes.specs.Lanes.{first_of, has_numbers, is_of, is_same, item_slots, kinds_of, lane_of, lane_slots, slot_at, slot_in}
 use Rattle.state_lanes.specs.declared.lanes.Lane.{Lane}
-use Rattle.state_lanes.proofs.Among.{same_one}
+use Rattle.state_lanes.specs.declared.lanes.Lane.TheVariants.{Numbers, Values}
 use Rattle.state_save.specs.Saving.{IsTold, tuple_of}
 use Rattle.state_whole.specs.Adding.{IsShape}
 use Rattle.state_whole.specs.declared.adding.Shape.{Shape}
 
+-- lanes that are the same are one
+and_split : (a b : Bool) → (a && b) ≡ true → (a ≡ true) × (b ≡ true)
+and_split true b e = (refl, e)
+and_split false b e = absurd (false≢true e)
+
+same_one : (a b : Lane) → is_same a b ≡ true → a ≡ b
+same_one (Values c) (Values d) e = ap Values (eqb-true c d e)
+same_one (Values c) (Numbers d q) e = absurd (false≢true e)
+same_one (Numbers c p) (Values d) e = absurd (false≢true e)
+same_one (Numbers c p) (Numbers d q) e =
+    let h = and_split (c == d) (p == q) e in
+    ap (λ (n : ℕ). Numbers n p) (eqb-true c d h.0) ∙ ap (λ (n : ℕ). Numbers d n) (eqb-true p q h.1)
+
+-- no values
+none_are_integers : IsOfIntegers no_values
+none_are_integers = record { sum = omega arith; least = fits_signed_from_abs w64 (pos 0) (omega arith); greatest = fits_signed_from_abs w64 (pos 0) (omega arith); order = omega (arith, ints) }
+
 none_is_slot : (kind : Bool) (rows : ℕ) → IsSlot kind rows no_values
-none_is_slot kind rows = record { count = omega arith; numbers = none_are_integers 0; plain = λ none. refl }
+none_is_slot kind rows = record { count = omega arith; numbers = none_are_integers; plain = λ none. refl }
 
 slot_at_is : (rows : ℕ) (lanes : List Lane) (slots : List SlotState) (lane : Lane) → AreSlots (kinds_of lanes) rows slots → IsSlot (has_numbers lane) rows (slot_at lanes slots lane)
 slot_at_is rows [] slots lane are = none_is_slot (has_numbers lane) rows

@@ -1,5 +1,5 @@
 -- What a file has of the groups of a map.
-use Rattle.std.specs.Prelude.{◌≡◌, ◌<◌, ◌++◌, ℕ, List, All, length, map}
+use Rattle.std.specs.Prelude.{◌≡◌, ◌<◌, ◌++◌, [], ℕ, List, All, length, map}
 use Rattle.std.specs.List.Sorted.{IsPermutation}
 use Rattle.partial_agg.specs.declared.groups.Group.{Group as MapGroup}
 use Rattle.result_text.specs.GroupOrder.{group_of}
