@@ -1,5 +1,5 @@
 -- What is written of the groups at some places: so far, and at the end.
-use Rattle.std.proofs.Common.{◌≡◌, ◌<◌, ◌++◌, ◌∙◌, ℕ, Bool, List, [], ◌∷◌, ap, append_assoc, append-nil, drop, get_or, length, map, subst, sym, take, take-append-drop}
+use Rattle.std.proofs.Common.{◌≡◌, ◌<◌, ◌+◌, ◌++◌, ◌∙◌, ℕ, Bool, List, [], ◌∷◌, ap, append_assoc, append-nil, drop, get_or, length, map, subst, sym, take, take-append-drop}
 use Rattle.std.proofs.lemmas.List.{map-append, map_more}
 use Rattle.partial_agg.specs.declared.groups.Group.{Group as MapGroup}
 use Rattle.result_text.specs.GroupOrder.{group_of}

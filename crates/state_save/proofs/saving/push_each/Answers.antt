@@ -26,5 +26,5 @@ returns-in_err-push_group-clause-long c =
 pub returns-clause-taken : goal.returns-clause-taken
 returns-clause-taken c = λ start has.
     let refs = c.args.refs.now in
-    let all = take_all refs c.loop-group.group-index (omega arith) in
+    let all = take_all c.loop-group.group-index refs (omega arith) in
     subst (λ (rs : List GroupRef). Goes c.args.shape.now.kinds.now start (tuples_at c.args.shape.now c.args.groups.now rs) [] c.args.out.now.items c.loop-group.out.items c.loop-group.writer) all (c.loop-group.invariant start has)
