@@ -1,9 +1,8 @@
 -- Several files as one.
-use Rattle.std.specs.Prelude.{◌≡◌, ℕ, List, [], All, length}
-use Rattle.std.specs.FinMap as map
+use Rattle.std.specs.Prelude.{◌≡◌, ◌⊎◌, ℕ, List, [], All, length}
 use Rattle.partial_agg.specs.Groups.{GroupsByKey}
 use Rattle.partial_agg.specs.Listed.{listed}
-use Rattle.state_blocks.specs.Blocks.{Group}
+use Rattle.partial_agg.specs.declared.groups.Group.{Group as MapGroup}
 use Rattle.state_body.specs.Body.{IsBody}
 use Rattle.state_cover.specs.Bytes.{had}
 use Rattle.state_cover.specs.Faults.{IsNoCover}
@@ -28,6 +27,10 @@ pub record IsCombined (shape : Shape) (subject : Subject) (keys : Keys) (m : Gro
   pub counted : All IsCounted f.preface.cover → AreTuplesOf shape (listed m) (tuples_in f)
   pub refused : (All IsCounted f.preface.cover → ⊥) → tuples_in f ≡ []
   pub is_body : All (IsTold shape) (listed m) → IsBody shape.columns shape.kinds.now (length (front_bytes f.preface)) f.blocks
+
+-- the groups that a file has beside a cover: those of a map, or none if a row is refused
+abbrev pub AreBeside : List Stretch → GroupsByKey → List MapGroup → Type 0
+AreBeside cover m groups = (All IsCounted cover × (groups ≡ listed m)) ⊎ ((All IsCounted cover → ⊥) × (groups ≡ []))
 
 -- why they are not written
 abbrev pub IsNotCombined : List Stretch → CombineFault → Type 0

@@ -5,16 +5,16 @@
 ghost use Rattle.std.specs.Prelude.{◌≡◌, ◌++◌, All, IfErr, OnOk};
 ghost use Rattle.partial_agg.specs.Listed.{listed};
 ghost use Rattle.result_text.specs.Printable.{IsKeyOf};
-ghost use Rattle.state_combine.specs.Combined.{IsCombined, IsNotCombined};
+ghost use Rattle.state_combine.specs.Combined.{AreBeside, IsCombined, IsNotCombined};
 ghost use Rattle.state_head.specs.Cover.{IsStretch};
 ghost use Rattle.state_head.specs.Head.{subject_of};
 ghost use Rattle.state_head.specs.Words.{keys_of};
 ghost use Rattle.state_whole.specs.Adding.{IsShape};
 ghost use Rattle.state_whole.specs.Files.{StateFile, file_bytes};
 
-use partial_agg::GroupMap;
+use partial_agg::{GroupMap, Groups};
 use state_cover::{CoverFault, join_cover};
-use state_head::{Head, KeyRange, Whole};
+use state_head::{Head, KeyRange, Stretch, Whole};
 use state_save::push_file;
 use state_total::first_refused;
 use state_whole::{Shape, Sum};
@@ -53,17 +53,24 @@ pub fn push_combined(
         Ok(cover) => cover,
         Err(why) => return Err(CombineFault::Cover { why }),
     };
-    let map = match first_refused(cover.as_slice()) {
-        Some(_) => GroupMap::new(alloc),
-        None => map,
-    };
+    let groups = groups_beside(alloc, cover.as_slice(), map);
     let head = Head {
         whole,
         cover,
         range,
     };
-    match push_file(alloc, out, &head, &map.into_groups(), shape) {
+    match push_file(alloc, out, &head, &groups, shape) {
         Ok(()) => Ok(()),
         Err(why) => Err(CombineFault::Write { why }),
+    }
+}
+
+/// The groups of a map, or none of them if a row of a cover is refused.
+fn groups_beside(alloc: Global, cover: &[Stretch], map: GroupMap) -> Groups
+    ensures { AreBeside cover.now map result }
+{
+    match first_refused(cover) {
+        Some(_) => GroupMap::new(alloc).into_groups(),
+        None => map.into_groups(),
     }
 }

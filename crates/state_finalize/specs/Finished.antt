@@ -4,7 +4,9 @@ use Rattle.par_model.specs.Named.{NamedPlan}
 use Rattle.par_model.specs.Plan.{Plan}
 use Rattle.partial_agg.specs.Groups.{GroupsByKey}
 use Rattle.partial_agg.specs.Listed.{listed}
+use Rattle.partial_agg.specs.declared.groups.Group.{Group}
 use Rattle.result_text.specs.Pieces.{joined}
+use Rattle.result_text.specs.Printable.{IsSmallSlot}
 use Rattle.result_text.specs.Text.{AreLinesOf, IsTextOf}
 use Rattle.state_head.specs.declared.cover.Stretch.{Stretch}
 use Rattle.state_total.specs.Total.{IsCounted, IsFirstRefused, IsNoTotal, IsWholeCover}
@@ -29,7 +31,12 @@ pub record IsFinished (names : NamedPlan) (plan : Plan) (low : List ℕ) (source
   pub is_whole : IsWholeCover sources stretches cover
   pub comes_to : ComesTo names plan low m cover f
 
+-- counts and sums as at most 2^50 rows give them
+abbrev pub HaveSmallSlots : List Group → Type 0
+HaveSmallSlots groups = All (λ group. All IsSmallSlot group.state.slots) groups
+
 -- why they come to nothing
-abbrev pub IsNotFinished : ℕ → List Stretch → FinishFault → Type 0
-IsNotFinished sources stretches fault.Memory = Unit {0}
-IsNotFinished sources stretches (fault.Total why) = IsNoTotal sources stretches why
+abbrev pub IsNotFinished : ℕ → GroupsByKey → List Stretch → FinishFault → Type 0
+IsNotFinished sources m stretches fault.Memory = Unit {0}
+IsNotFinished sources m stretches (fault.Total why) = IsNoTotal sources stretches why
+IsNotFinished sources m stretches fault.Rows = HaveSmallSlots (listed m) → ⊥

@@ -1,14 +1,14 @@
 //! The end of a query in parts: if the stretches of all files are all bytes of all sources, each once, the text of their groups.
 
-ghost use Rattle.std.specs.Prelude.{◌≡◌, All, IfErr, IfOk};
+ghost use Rattle.std.specs.Prelude.{◌≡◌, All, IfErr, IfOk, false, length, true};
 ghost use Rattle.partial_agg.specs.Groups.{GroupsByKey};
 ghost use Rattle.partial_agg.specs.Listed.{listed};
 ghost use Rattle.result_text.specs.Pieces.{joined};
-ghost use Rattle.result_text.specs.Printable.{ArePrintable, IsBoundFrom};
-ghost use Rattle.state_finalize.specs.Finished.{IsFinished, IsNotFinished, IsTextFrom};
+ghost use Rattle.result_text.specs.Printable.{ArePrintable, IsBoundFrom, IsKeyOf, IsSmallSlot};
+ghost use Rattle.state_finalize.specs.Finished.{HaveSmallSlots, IsFinished, IsNotFinished, IsTextFrom};
 ghost use Rattle.state_head.specs.Cover.{IsStretch};
 
-use par_model::BoundPlan;
+use par_model::{BoundPlan, SlotState};
 use partial_agg::Groups;
 use plan_spec::Plan;
 use result_text::{behind, lines_text, text_in_threads};
@@ -18,6 +18,9 @@ use state_whole::Sum;
 use std::alloc::{AllocError, Global};
 use std::thread::Threads;
 
+/// The most rows of a table: 2^50.
+const MOST_ROWS: u64 = 1 << 50;
+
 /// What all files come to: the text of the table in pieces, one after another, or the first refused row.
 #[derive(Drop)]
 pub enum Finished {
@@ -25,11 +28,13 @@ pub enum Finished {
     Refused(FirstRefused),
 }
 
-/// Why files come to nothing: memory ran out; their stretches are not all bytes, each once, as `why` says.
+/// Why files come to nothing: memory ran out; their stretches are not all bytes, each once, as `why` says; a group has a count or a sum
+/// that no 2^50 rows give.
 #[derive(Clone, Copy, Debug, PartialEq, Eq)]
 pub enum FinishFault {
     Memory,
     Total { why: TotalFault },
+    Rows,
 }
 
 /// What the sum of all files comes to, if they say this of themselves. Files of a range of keys that has a low end give the lines of
@@ -46,12 +51,12 @@ pub fn finish<R: Threads + Sync>(
     threads: usize,
 ) -> Result<Finished, FinishFault>
     requires bound { IsBoundFrom plan.now.plan bound.now }
-    requires printable { ArePrintable bound.now (listed sum.map) }
+    requires keys { All (λ group. IsKeyOf (length bound.now.groups) group.key) (listed sum.map) }
     requires stretches { All (IsStretch whole.sources) sum.cover.items }
     ensures finished { IfOk result (IsFinished plan.now.plan bound.now range.low.now whole.sources sum.map sum.cover.items) }
 
     // When each error comes.
-    ensures refused { IfErr result (IsNotFinished whole.sources sum.cover.items) }
+    ensures refused { IfErr result (IsNotFinished whole.sources sum.map sum.cover.items) }
 {
     let (map, mut stretches) = sum.into_parts();
     let cover = match whole_cover(alloc, &mut stretches, whole.sources) {
@@ -61,10 +66,55 @@ pub fn finish<R: Threads + Sync>(
     if let Some(row) = first_refused(cover.as_slice()) {
         return Ok(Finished::Refused(row));
     }
-    match text_from(rt, alloc, plan, bound, range.low, &map.into_groups(), threads) {
+    let groups = map.into_groups();
+    if !are_small(&groups) {
+        return Err(FinishFault::Rows);
+    }
+    match text_from(rt, alloc, plan, bound, range.low, &groups, threads) {
         Ok(text) => Ok(Finished::Table(text)),
         Err(AllocError) => Err(FinishFault::Memory),
     }
+}
+
+/// Whether the slots of all groups are as at most 2^50 rows give them.
+fn are_small(groups: &Groups) -> bool
+    ensures small { result ≡ true → HaveSmallSlots groups.now }
+    ensures not_small { result ≡ false → HaveSmallSlots groups.now → ⊥ }
+{
+    for at in 0..groups.len() {
+        let state = groups.state(at);
+        if !are_small_slots(&state.slots) {
+            return false;
+        }
+    }
+    true
+}
+
+/// Whether some slots are as at most 2^50 rows give them.
+fn are_small_slots(slots: &[SlotState]) -> bool
+    ensures small { result ≡ true → All IsSmallSlot slots.now }
+    ensures not_small { result ≡ false → All IsSmallSlot slots.now → ⊥ }
+{
+    for at in 0..slots.len() {
+        if !is_small(&slots[at]) {
+            return false;
+        }
+    }
+    true
+}
+
+/// Whether a slot is as at most 2^50 rows give it.
+fn is_small(slot: &SlotState) -> bool
+    ensures small { result ≡ true → IsSmallSlot slot.now }
+    ensures not_small { result ≡ false → IsSmallSlot slot.now → ⊥ }
+{
+    if slot.count > MOST_ROWS {
+        return false;
+    }
+    if slot.sum.unsigned_abs() > u128::from(slot.count) * (1 << 63) {
+        return false;
+    }
+    true
 }
 
 /// The text of some groups in pieces: the table, or if there is a low end its lines only.

@@ -34,13 +34,13 @@ impl From<AllocError> for PlanFault {
     }
 }
 
-/// A plan, the same over the columns of a header, and the lanes of its aggregates.
+/// A plan, the same over the columns of a header, the lanes of its aggregates, and which of these have numbers.
 #[derive(Drop)]
 pub struct FilePlan {
     pub plan: Plan,
     pub bound: BoundPlan,
-    lanes: Vec<Lane>,
-    kinds: Vec<bool>,
+    pub lanes: Vec<Lane>,
+    pub kinds: Vec<bool>,
 }
 
 impl FilePlan {
@@ -72,7 +72,7 @@ impl FilePlan {
         ensures fits { (s : Subject) → IsPlanOf s self.now → IsShape result }
     {
         Shape {
-            columns: self.bound.group_count,
+            columns: self.bound.group_columns().len() as u32,
             lanes: self.lanes.as_slice(),
             kinds: self.kinds.as_slice(),
             items: self.bound.items(),
@@ -108,7 +108,7 @@ fn header_of(alloc: Global, bytes: &[u8]) -> Result<RowStore, PlanFault>
                 Err(PlanFault::Header)
             }
         }
+        Err(RowsAnswer::NoHeader | RowsAnswer::TooManyRows) => Err(PlanFault::Header),
         Err(RowsAnswer::Memory) => Err(PlanFault::Memory),
-        Err(_) => Err(PlanFault::Header),
     }
 }

@@ -68,7 +68,8 @@ fn push_filters(
         let Some((text, after)) = read_text(rest, MOST_WORD) else {
             return Ok(false);
         };
-        if !push_word(alloc, command, "--where=", text)? {
+        let is_text = push_word(alloc, command, "--where=", text)?;
+        if !is_text {
             return Ok(false);
         }
         rest = after;

@@ -73,7 +73,7 @@ fn of_tuple<'a>(number: &'a str, said: &'a str) -> [&'a str; 3]
     ["tuple ", number, said]
 }
 
-fn front_text(why: FrontFault) -> &'static str
+fn front_text<'a>(why: FrontFault) -> &'a str
     ensures { result.now ≡ front_text why }
 {
     match why {
@@ -85,7 +85,7 @@ fn front_text(why: FrontFault) -> &'static str
     }
 }
 
-fn head_text(why: SectionRead) -> &'static str
+fn head_text<'a>(why: SectionRead) -> &'a str
     ensures { result.now ≡ head_text why }
 {
     match why {
@@ -95,7 +95,7 @@ fn head_text(why: SectionRead) -> &'static str
     }
 }
 
-fn block_text(why: SectionRead) -> &'static str
+fn block_text<'a>(why: SectionRead) -> &'a str
     ensures { result.now ≡ block_text why }
 {
     match why {
@@ -105,7 +105,7 @@ fn block_text(why: SectionRead) -> &'static str
     }
 }
 
-fn foot_text(why: SectionRead) -> &'static str
+fn foot_text<'a>(why: SectionRead) -> &'a str
     ensures { result.now ≡ foot_text why }
 {
     match why {
@@ -115,7 +115,7 @@ fn foot_text(why: SectionRead) -> &'static str
     }
 }
 
-fn other_text(why: OtherFile) -> &'static str
+fn other_text<'a>(why: OtherFile) -> &'a str
     ensures { result.now ≡ other_text why }
 {
     match why {

@@ -59,7 +59,8 @@ pub fn first_refused(cover: &[Stretch]) -> Option<FirstRefused>
     ensures first { IfSome result (IsFirstRefused cover.now) }
     ensures none { IfNone result (All IsCounted cover.now) }
 {
-    for stretch in cover {
+    for at in 0..cover.len() {
+        let stretch = cover[at];
         match stretch.rows {
             Rows::Counted(_) => {}
             Rows::Refused(why) => {
