@@ -26,6 +26,7 @@ stop_says (stop.Load fault) = (BAD_STATES, file_says fault.file (cause_text faul
 stop_says stop.NoPlan = (BAD_STATES, file_says 1 (codes "no right head"))
 stop_says (stop.Cover why) = (BAD_STATES, cover_text why)
 stop_says (stop.Missing gap) = (MISSING, gap_text gap)
+stop_says stop.Rows = (BAD_STATES, codes "a group has too many rows")
 stop_says (stop.Refused source row said) = (REFUSED, row_says source row (string_bytes said))
 stop_says stop.Long = (TOO_LARGE, codes "too long for a file of states")
 stop_says stop.WriteFault = (WRITE_FAULT, codes "write fault")

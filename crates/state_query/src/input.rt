@@ -1,7 +1,8 @@
 //! The files of an input, put together.
 
-ghost use Rattle.std.specs.Prelude.{◌≡◌, IfOk, IfSome};
+ghost use Rattle.std.specs.Prelude.{◌≡◌, ℕ, List, IfErr, IfOk, IfSome};
 ghost use Rattle.state_query.specs.Inputs.{IsLoaded};
+ghost use Rattle.state_query.specs.Whys.{IsStopOf};
 
 use crate::stop::Stop;
 use par_io::{NotWhole, Source, read_whole};
@@ -27,6 +28,7 @@ pub(crate) struct Loaded<'a> {
 /// All bytes of a source.
 pub(crate) fn read_input<S: Source>(alloc: Global, source: &mut S) -> Result<Vec<u8>, Stop>
     ensures whole { IfOk result (λ v. IfSome (S.left source.old) (λ bytes. v.items ≡ bytes)) }
+    ensures why { IfErr result (λ why. (bytes : List ℕ) → IsStopOf bytes why) }
 {
     match read_whole(alloc, source, MOST_BYTES) {
         Ok(bytes) => Ok(bytes),
@@ -38,6 +40,7 @@ pub(crate) fn read_input<S: Source>(alloc: Global, source: &mut S) -> Result<Vec
 /// The sum of the files that some bytes are, of which the first says what all have to say.
 pub(crate) fn load<'a>(alloc: Global, bytes: &'a [u8]) -> Result<Loaded<'a>, Stop>
     ensures loaded { IfOk result (IsLoaded bytes.now) }
+    ensures why { IfErr result (IsStopOf bytes.now) }
 {
     let front = match read_front(alloc, bytes) {
         Ok(front) => front,

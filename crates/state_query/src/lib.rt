@@ -8,9 +8,9 @@
 ghost use Rattle.std.specs.Prelude.{◌≡◌, ◌≢◌, List, ℕ, IfErr, IfSome, OnOk};
 ghost use Rattle.std.specs.Io.KnownBytes.{Appends};
 ghost use Rattle.answer_text.specs.Lines.{IsSaid};
-ghost use Rattle.par_io.specs.Faults.{Rose};
 ghost use Rattle.state_query.specs.Inputs.{HasText, Input, IsInput, IsOneFile};
 ghost use Rattle.state_query.specs.Stops.{line, stop_says};
+ghost use Rattle.state_query.specs.Whys.{IsStopOf};
 ghost use Rattle.state_query.specs.declared.stop.Stop.{Stop};
 ghost use Rattle.state_query.specs.declared.stop.Stop.TheVariants as stop;
 ghost use Rattle.state_whole.specs.Files.{StateFile, file_bytes};
@@ -37,7 +37,10 @@ pub fn combine_states<S: Source, O: Sink, E: Sink>(
 ) -> u8
     ensures states { result ≡ WRITTEN → IfSome (S.left source.old) (λ bytes. (i : Input) × IsInput bytes i × (f : StateFile) × IsOneFile i f
         × Appends (O.taken out.old) (O.taken out.new) (file_bytes i.shape.kinds.now f)) }
-    ensures why { (result ≢ WRITTEN) → (why : Stop) × (result ≡ (stop_says why).0)
+    ensures nothing { (result ≢ WRITTEN) → (result ≢ WRITE_FAULT) → out.new ≡ out.old }
+
+    // On every other status there is a reason, which is one of these bytes; the status is the reason's, and so is the line.
+    ensures why { (result ≢ WRITTEN) → (why : Stop) × IfSome (S.left source.old) (λ bytes. IsStopOf bytes why) × (result ≡ (stop_says why).0)
         × IsSaid (E.taken err.old) (E.taken err.new) (E.faults err.old) (E.faults err.new) (line (stop_says why).1) }
 {
     match combine(alloc, source, out) {
@@ -59,7 +62,10 @@ pub fn finalize_states<R: Threads + Sync, S: Source, O: Sink, E: Sink>(
 ) -> u8
     ensures table { result ≡ WRITTEN → IfSome (S.left source.old) (λ bytes. (i : Input) × IsInput bytes i × (text : List ℕ) × HasText i text
         × Appends (O.taken out.old) (O.taken out.new) text) }
-    ensures why { (result ≢ WRITTEN) → (why : Stop) × (result ≡ (stop_says why).0)
+    ensures nothing { (result ≢ WRITTEN) → (result ≢ WRITE_FAULT) → out.new ≡ out.old }
+
+    // On every other status there is a reason, which is one of these bytes; the status is the reason's, and so is the line.
+    ensures why { (result ≢ WRITTEN) → (why : Stop) × IfSome (S.left source.old) (λ bytes. IsStopOf bytes why) × (result ≡ (stop_says why).0)
         × IsSaid (E.taken err.old) (E.taken err.new) (E.faults err.old) (E.faults err.new) (line (stop_says why).1) }
 {
     match finalize(rt, alloc, threads, source, out) {
@@ -77,6 +83,7 @@ fn combine<S: Source, O: Sink>(
     ensures states { OnOk result (IfSome (S.left source.old) (λ bytes. (i : Input) × IsInput bytes i × (f : StateFile) × IsOneFile i f
         × Appends (O.taken out.old) (O.taken out.new) (file_bytes i.shape.kinds.now f))) }
     ensures nothing { IfErr result (λ why. (why ≢ stop.WriteFault) → out.new ≡ out.old) }
+    ensures why { IfErr result (λ why. IfSome (S.left source.old) (λ bytes. IsStopOf bytes why)) }
 {
     let bytes = read_input(alloc, source)?;
     let Loaded {
@@ -105,6 +112,7 @@ fn finalize<R: Threads + Sync, S: Source, O: Sink>(
     ensures table { OnOk result (IfSome (S.left source.old) (λ bytes. (i : Input) × IsInput bytes i × (text : List ℕ) × HasText i text
         × Appends (O.taken out.old) (O.taken out.new) text)) }
     ensures nothing { IfErr result (λ why. (why ≢ stop.WriteFault) → out.new ≡ out.old) }
+    ensures why { IfErr result (λ why. IfSome (S.left source.old) (λ bytes. IsStopOf bytes why)) }
 {
     let bytes = read_input(alloc, source)?;
     let Loaded {

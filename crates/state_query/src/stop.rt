@@ -1,9 +1,15 @@
 //! Why nothing is written: its status and its line.
 
-ghost use Rattle.std.specs.Prelude.{◌≡◌, ◌++◌, ◌⊎◌, codes, map};
+ghost use Rattle.std.specs.Prelude.{◌≡◌, ◌++◌, ℕ, List, codes, map};
 ghost use Rattle.std.specs.List.{concat};
 ghost use Rattle.answer_text.specs.Lines.{IsSaid};
+ghost use Rattle.state_combine.specs.Combined.{IsNotCombined};
+ghost use Rattle.state_cover.specs.Faults.{IsNoCover};
+ghost use Rattle.state_finalize.specs.Finished.{IsNotFinished};
+ghost use Rattle.state_load.specs.Loading.{stretches_of};
+ghost use Rattle.state_query.specs.Inputs.{HasRefusedRow, Input, IsInput, groups_in};
 ghost use Rattle.state_query.specs.Stops.{line, stop_says};
+ghost use Rattle.state_query.specs.Whys.{IsNoInput, IsStopOf, NamesNoPlan};
 ghost use Rattle.state_query.specs.declared.stop.Stop.TheVariants as stop;
 
 use answer_text::{NO_MEMORY, READ_FAULT, REFUSED, TOO_LARGE, WRITE_FAULT, write_pieces};
@@ -41,6 +47,7 @@ pub enum Stop {
     NoPlan,
     Cover(CoverFault),
     Missing(Missing),
+    Rows,
     Refused(u32, u64, String),
     Long,
     WriteFault,
@@ -57,7 +64,9 @@ impl From<Failed> for Stop {
 
 impl Stop {
     /// The reason for a file that is not taken.
-    pub(crate) fn of_load(fault: LoadFault) -> Stop {
+    pub(crate) fn of_load(fault: LoadFault) -> Stop
+        ensures { (bytes : List ℕ) → IsNoInput bytes fault → IsStopOf bytes result }
+    {
         if is_memory(fault.why) {
             return Stop::Memory;
         }
@@ -65,7 +74,9 @@ impl Stop {
     }
 
     /// The reason for a head that has no plan.
-    pub(crate) fn of_plan(why: PlanFault) -> Stop {
+    pub(crate) fn of_plan(why: PlanFault) -> Stop
+        ensures { (bytes : List ℕ) → NamesNoPlan bytes why → IsStopOf bytes result }
+    {
         match why {
             PlanFault::Memory => Stop::Memory,
             PlanFault::Words | PlanFault::Header | PlanFault::Column => Stop::NoPlan,
@@ -73,7 +84,9 @@ impl Stop {
     }
 
     /// The reason for files that are not written as one.
-    pub(crate) fn of_combine(why: CombineFault) -> Stop {
+    pub(crate) fn of_combine(why: CombineFault) -> Stop
+        ensures { (bytes : List ℕ) (i : Input) → IsInput bytes i → IsNotCombined (stretches_of i.files) why → IsStopOf bytes result }
+    {
         match why {
             CombineFault::Cover { why } => of_cover(why),
             CombineFault::Write { why } => match why {
@@ -84,18 +97,23 @@ impl Stop {
     }
 
     /// The reason for files that come to nothing.
-    pub(crate) fn of_finish(why: FinishFault) -> Stop {
+    pub(crate) fn of_finish(why: FinishFault) -> Stop
+        ensures { (bytes : List ℕ) (i : Input) → IsInput bytes i → IsNotFinished i.subject.sources (groups_in i) (stretches_of i.files) why → IsStopOf bytes result }
+    {
         match why {
             FinishFault::Memory => Stop::Memory,
             FinishFault::Total { why } => match why {
                 TotalFault::Cover { why } => of_cover(why),
                 TotalFault::Missing { gap } => Stop::Missing(gap),
             },
+            FinishFault::Rows => Stop::Rows,
         }
     }
 
     /// The reason for a refused row.
-    pub(crate) fn of_row(alloc: Global, plan: &Plan, row: FirstRefused) -> Stop {
+    pub(crate) fn of_row(alloc: Global, plan: &Plan, row: FirstRefused) -> Stop
+        ensures { (bytes : List ℕ) (i : Input) → IsInput bytes i → i.query ≡ plan.now → HasRefusedRow i row → IsStopOf bytes result }
+    {
         let why = Refusal {
             cause: row.why.cause,
             item: row.why.item,
@@ -112,7 +130,7 @@ impl Stop {
     {
         match self {
             Stop::ReadFault => READ_FAULT,
-            Stop::Load(_) | Stop::NoPlan | Stop::Cover(_) => BAD_STATES,
+            Stop::Load(_) | Stop::NoPlan | Stop::Cover(_) | Stop::Rows => BAD_STATES,
             Stop::Missing(_) => MISSING,
             Stop::Refused(_, _, _) => REFUSED,
             Stop::Long => TOO_LARGE,
@@ -136,6 +154,7 @@ impl Stop {
             Stop::NoPlan => of_file("1", ["no right head", "", ""]),
             Stop::Cover(why) => of_five(cover_pieces(*why, one, other)),
             Stop::Missing(gap) => of_seven(gap_pieces(*gap, one, other, third)),
+            Stop::Rows => plain("a group has too many rows"),
             Stop::Refused(source, row, said) => {
                 let source = one.format(*source);
                 of_row(source, other.format(*row), said.as_str())
@@ -179,12 +198,15 @@ fn is_out(why: FileFault) -> bool {
 }
 
 /// The reason for stretches that are no cover.
-fn of_cover(why: CoverFault) -> Stop {
+fn of_cover(why: CoverFault) -> Stop
+    ensures { (bytes : List ℕ) (i : Input) → IsInput bytes i → IsNoCover (stretches_of i.files) why → IsStopOf bytes result }
+{
     match why {
         CoverFault::Memory => Stop::Memory,
-        CoverFault::Twice { .. } | CoverFault::Size { .. } | CoverFault::Rows { .. } | CoverFault::Many => {
-            Stop::Cover(why)
-        }
+        CoverFault::Twice { .. }
+        | CoverFault::Size { .. }
+        | CoverFault::Rows { .. }
+        | CoverFault::Many => Stop::Cover(why),
     }
 }
 
