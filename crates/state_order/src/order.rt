@@ -30,7 +30,7 @@ pub struct KeyOrder<'a> {
 impl<'a> KeyOrder<'a> {
     /// No keys; those that come will have this many columns, and lie within this range.
     pub fn new(columns: u32, range: KeyRange<'a>) -> KeyOrder<'a>
-        ensures { HasKeys columns (keys_of range) [] result }
+        ensures { HasKeys columns (keys_of range.entry) [] result }
     {
         KeyOrder {
             columns,
@@ -70,7 +70,7 @@ impl<'a> KeyOrder<'a> {
 
 /// Whether a key lies within a range.
 fn is_in(range: KeyRange<'_>, key: &[u8], columns: u32) -> bool
-    ensures { IsTrue result ↔ IsIn columns (keys_of range) key.now }
+    ensures { IsTrue result ↔ IsIn columns (keys_of range.entry) key.now }
 {
     is_from(range.low, key, columns) && is_below(range.high, key, columns)
 }

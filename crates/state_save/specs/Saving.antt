@@ -2,6 +2,8 @@
 use Rattle.std.specs.Prelude.{◌≡◌, ◌++◌, ℕ, List, All, length, map}
 use Rattle.std.specs.List.Sorted.{IsPermutation}
 use Rattle.partial_agg.specs.declared.groups.Group.{Group as MapGroup}
+use Rattle.result_text.specs.GroupOrder.{group_of}
+use Rattle.result_text.specs.declared.order.GroupRef.{GroupRef}
 use Rattle.state_blocks.specs.Blocks.{Group, IsTuple}
 use Rattle.state_body.specs.Body.{IsBody, body_bytes}
 use Rattle.state_front.specs.Front.{front_bytes}
@@ -16,6 +18,10 @@ use Rattle.state_writer.specs.Writing.{Ends}
 -- a group of a map as a file has it, with a slot for each lane
 abbrev pub tuple_of : Shape → MapGroup → Group
 tuple_of shape g = record { key = g.key; rows = g.state.rows; slots = lane_slots shape.lanes.now shape.items.now g.state.slots }
+
+-- the tuples of the groups at some places, in their order
+abbrev pub tuples_at : Shape → List MapGroup → List GroupRef → List Group
+tuples_at shape groups refs = map (λ ref. tuple_of shape (group_of groups ref)) refs
 
 -- these are some groups of a map, in the order of the table
 pub record AreTuplesOf (shape : Shape) (groups : List MapGroup) (tuples : List Group) : Type 0 where

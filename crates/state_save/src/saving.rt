@@ -10,10 +10,10 @@ ghost use Rattle.result_text.specs.Printable.{IsKeyOf};
 ghost use Rattle.state_blocks.specs.Blocks.{Group};
 ghost use Rattle.state_front.specs.Front.{front_bytes};
 ghost use Rattle.state_head.specs.Head.{head_bytes, preface_of};
-ghost use Rattle.state_save.specs.Saving.{AreTuplesOf, AreWritten, IsFileOf, tuple_of};
+ghost use Rattle.state_save.specs.Saving.{AreTuplesOf, AreWritten, IsFileOf, tuple_of, tuples_at};
 ghost use Rattle.state_whole.specs.Adding.{IsShape};
 ghost use Rattle.state_whole.specs.Files.{StateFile, file_bytes};
-ghost use Rattle.state_writer.specs.Writing.{Fit, Goes, HasTaken};
+ghost use Rattle.state_writer.specs.Writing.{Fit, FitInBlocks, Goes, HasTaken};
 ghost use Rattle.state_writer.specs.declared.writer.WriteError.TheVariants as variant;
 
 use partial_agg::Groups;
@@ -68,12 +68,31 @@ pub fn push_groups(
     // When the error comes that is not of memory.
     ensures long { result ≡ Err variant.Long → (tuples : List Group) × AreTuplesOf shape.now groups.now tuples × (Fit shape.now.kinds.now at tuples → ⊥) }
 {
+    groups.keys_rise();
     let refs = in_order(alloc, groups, shape.columns)?;
     let mut writer = BodyWriter::new(alloc, at);
-    for group in refs.as_slice() {
-        push_group(&mut writer, out, groups, *group, shape)?;
-    }
+    push_each(&mut writer, out, groups, &refs, shape)?;
     writer.finish(alloc, out)
+}
+
+/// Takes groups of a map into a file, in this order.
+fn push_each(
+    writer: &mut BodyWriter,
+    out: &mut Vec<u8>,
+    groups: &Groups,
+    refs: &[GroupRef<'_>],
+    shape: &Shape<'_>,
+) -> Result<(), WriteError>
+    requires shape { IsShape shape.now }
+    requires within { All (λ group. group.at < length groups.now) refs.now }
+    ensures taken { (start : ℕ) → HasTaken shape.now.kinds.now start [] [] writer.old
+        → OnOk result (Goes shape.now.kinds.now start (tuples_at shape.now groups.now refs.now) [] out.old.items out.new.items writer.new) }
+    ensures long { (start : ℕ) → HasTaken shape.now.kinds.now start [] [] writer.old → result ≡ Err variant.Long → FitInBlocks shape.now.kinds.now start (tuples_at shape.now groups.now refs.now) → ⊥ }
+{
+    for group in refs {
+        push_group(writer, out, groups, *group, shape)?;
+    }
+    Ok(())
 }
 
 /// Takes a group of a map into a file.
@@ -87,10 +106,12 @@ fn push_group(
     requires shape { IsShape shape.now }
     requires place { group.at < length groups.now }
     ensures taken { (start : ℕ) (tuples : List Group) (written : List ℕ) → HasTaken shape.now.kinds.now start tuples written writer.old
-        → OnOk result (Goes shape.now.kinds.now start (tuples ++ tuple_of shape.now (group_of groups.now group) ∷ []) written out.old.items out.new.items writer.new) }
+        → OnOk result (Goes shape.now.kinds.now start (tuples ++ tuple_of shape.now (group_of groups.now group.entry) ∷ []) written out.old.items out.new.items writer.new) }
+    ensures long { (start : ℕ) (tuples : List Group) (written : List ℕ) → HasTaken shape.now.kinds.now start tuples written writer.old → result ≡ Err variant.Long
+        → FitInBlocks shape.now.kinds.now start (tuples ++ tuple_of shape.now (group_of groups.now group.entry) ∷ []) → ⊥ }
 {
     let state = groups.state(group.at);
-    let slots = lane_slots(shape.lanes, shape.items, &state.slots);
-    let slots = &slots[..shape.lanes.len()];
+    let found = lane_slots(shape.lanes, shape.items, &state.slots);
+    let slots = &found[..shape.lanes.len()];
     writer.push(out, shape.kinds, group.key, state.rows, slots)
 }

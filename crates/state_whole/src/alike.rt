@@ -18,8 +18,8 @@ pub enum OtherFile {
 
 /// Whether a file is of the same plan, header and sources as the first one.
 pub fn check_whole(first: Whole<'_>, other: Whole<'_>) -> Result<(), OtherFile>
-    ensures same { OnOk result (subject_of other ≡ subject_of first) }
-    ensures refused { IfErr result (DiffersIn (subject_of first) (subject_of other)) }
+    ensures same { OnOk result (subject_of other.entry ≡ subject_of first.entry) }
+    ensures refused { IfErr result (DiffersIn (subject_of first.entry) (subject_of other.entry)) }
 {
     if !has_words(first.words, other.words) {
         return Err(OtherFile::Plan);
@@ -35,8 +35,8 @@ pub fn check_whole(first: Whole<'_>, other: Whole<'_>) -> Result<(), OtherFile>
 
 /// Whether a file has the same range of keys as the first one.
 pub fn check_range(first: KeyRange<'_>, other: KeyRange<'_>) -> Result<(), OtherFile>
-    ensures same { OnOk result (keys_of other ≡ keys_of first) }
-    ensures refused { IfErr result (RangesDiffer (keys_of first) (keys_of other)) }
+    ensures same { OnOk result (keys_of other.entry ≡ keys_of first.entry) }
+    ensures refused { IfErr result (RangesDiffer (keys_of first.entry) (keys_of other.entry)) }
 {
     if !have_same(first.low, first.high, other.low, other.high) {
         return Err(OtherFile::Range);
@@ -46,7 +46,7 @@ pub fn check_range(first: KeyRange<'_>, other: KeyRange<'_>) -> Result<(), Other
 
 /// Whether the words of two plans are the same.
 fn has_words(first: PlanWords<'_>, other: PlanWords<'_>) -> bool
-    ensures { IsTrue result ↔ (words_of other ≡ words_of first) }
+    ensures { IsTrue result ↔ (words_of other.entry ≡ words_of first.entry) }
 {
     have_same(first.group, first.agg, other.group, other.agg)
         && have_same(first.filter, first.decimals, other.filter, other.decimals)

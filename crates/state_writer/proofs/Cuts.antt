@@ -21,7 +21,7 @@ cond_no n x y less = go (nat_le 60_000 n) refl
     go true e = let more = leb-true 60_000 n e in absurd (omega (arith, more, less))
     go false e = refl
 
-pub cond_yes : {A : Type 0} (n : ℕ) (x y : A) → 60_000 ≤ n → cond (nat_le 60_000 n) x y ≡ x
+cond_yes : {A : Type 0} (n : ℕ) (x y : A) → 60_000 ≤ n → cond (nat_le 60_000 n) x y ≡ x
 cond_yes n x y more = go (nat_le 60_000 n) refl
   where
     go : (b : Bool) → nat_le 60_000 n ≡ b → cond b x y ≡ x
@@ -32,7 +32,7 @@ pub cut-push : (kinds : List Bool) (groups : List Group) (g : Group) → cut kin
 unfolding cut
 cut-push kinds groups g = fold_push (cut_more kinds) (record { full = []; begun = [] }) groups g
 
-block-push : (kinds : List Bool) (block : List Group) (g : Group) → block_bytes kinds (block ++ g ∷ []) ≡ block_bytes kinds block ++ tuple_bytes kinds g
+pub block-push : (kinds : List Bool) (block : List Group) (g : Group) → block_bytes kinds (block ++ g ∷ []) ≡ block_bytes kinds block ++ tuple_bytes kinds g
 unfolding block_bytes
 block-push kinds block g = flat_map-append (tuple_bytes kinds) block (g ∷ []) ∙ ap (λ (bs : List ℕ). flat_map (tuple_bytes kinds) block ++ bs) (append-nil (tuple_bytes kinds g))
 

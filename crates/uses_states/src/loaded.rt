@@ -1,11 +1,11 @@
 //! Two files one after another, and files that do not go together.
 
-use state_load::{LoadCause, LoadFault, add_files};
 use par_model::{AggState, Item, ItemKind, NO_VALUES};
 use partial_agg::GroupMap;
 use state_front::FrontFault;
 use state_head::{Head, KeyRange, Place, PlanWords, Rows, Stretch, Whole};
 use state_lanes::Lane;
+use state_load::{LoadCause, LoadFault, add_files};
 use state_save::push_file;
 use state_whole::{OtherFile, Shape, Sum};
 use std::alloc::Global;
@@ -41,7 +41,16 @@ fn loaded(rt: HostRuntime) -> Result<(), Fail> {
     let one = input.len();
     push(rt.alloc(), &mut input, &head_of(rt.alloc(), b"k\n", 1)?, 4)?;
     let mut sum = Sum::new(rt.alloc());
-    assert!(rt; add_files(rt.alloc(), &mut sum, input.as_slice(), first.whole, first.range, &SHAPE) == Ok(2));
+    assert!(rt;
+        add_files(
+            rt.alloc(),
+            &mut sum,
+            input.as_slice(),
+            first.whole,
+            first.range,
+            &SHAPE
+        ) == Ok(2)
+    );
     assert!(rt; sum.cover.len() == 2);
     let groups = sum.map.into_groups();
     assert!(rt; groups.len() == 1 && groups.state(0).rows == 7);
@@ -52,17 +61,29 @@ fn loaded(rt: HostRuntime) -> Result<(), Fail> {
         why: FrontFault::NoStates,
     };
     assert!(rt;
-        add_files(rt.alloc(), &mut none, cut, first.whole, first.range, &SHAPE) == Err(LoadFault { file: 2, why })
+        add_files(rt.alloc(), &mut none, cut, first.whole, first.range, &SHAPE)
+            == Err(LoadFault { file: 2, why })
     );
     let mut other = Vec::new(rt.alloc());
-    push(rt.alloc(), &mut other, &head_of(rt.alloc(), b"k,v\n", 0)?, 1)?;
+    push(
+        rt.alloc(),
+        &mut other,
+        &head_of(rt.alloc(), b"k,v\n", 0)?,
+        1,
+    )?;
     let why = LoadCause::Other {
         why: OtherFile::Header,
     };
     let mut sum = Sum::new(rt.alloc());
     assert!(rt;
-        add_files(rt.alloc(), &mut sum, other.as_slice(), first.whole, first.range, &SHAPE)
-            == Err(LoadFault { file: 1, why })
+        add_files(
+            rt.alloc(),
+            &mut sum,
+            other.as_slice(),
+            first.whole,
+            first.range,
+            &SHAPE
+        ) == Err(LoadFault { file: 1, why })
     );
     Ok(())
 }

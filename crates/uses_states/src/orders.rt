@@ -1,7 +1,7 @@
 //! Keys that rise as lines do and not as bytes do, and keys that don't come next.
 
-use state_order::{KeyOrder, OrderFault};
 use state_head::KeyRange;
+use state_order::{KeyOrder, OrderFault};
 use std::test::Fail;
 
 #[test]

@@ -1,11 +1,11 @@
 //! A map as a file, and the file as a map again.
 
-use state_save::push_file;
 use par_model::{AggState, Item, ItemKind, NO_VALUES, SlotState};
 use partial_agg::GroupMap;
 use state_front::read_front;
 use state_head::{Head, KeyRange, PlanWords, Whole};
 use state_lanes::Lane;
+use state_save::push_file;
 use state_whole::{Shape, Sum};
 use std::alloc::Global;
 use std::test::Fail;

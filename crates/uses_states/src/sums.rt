@@ -2,11 +2,11 @@
 
 ghost use Rattle.std.specs.Prelude.{◌<◌, ◌^◌, length};
 
-use state_whole::{FileFault, GroupFault, OtherFile, Shape, Sum, check_range, check_whole};
 use par_model::{Item, ItemKind, SlotState};
 use state_front::{push_front, read_front};
 use state_head::{Head, KeyRange, PlanWords, Whole};
 use state_lanes::Lane;
+use state_whole::{FileFault, GroupFault, OtherFile, Shape, Sum, check_range, check_whole};
 use state_writer::BodyWriter;
 use std::alloc::Global;
 use std::test::Fail;

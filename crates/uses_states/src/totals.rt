@@ -45,10 +45,7 @@ fn totals(rt: HostRuntime) -> Result<(), Fail> {
     assert!(rt; first_refused(cover.as_slice()) == Some(first));
     assert!(rt; first_refused(&[]) == None);
     parts.push(stretch_of(0, 3, 4, Rows::Counted(1)))?;
-    let why = CoverFault::Twice {
-        source: 0,
-        at: 3,
-    };
+    let why = CoverFault::Twice { source: 0, at: 3 };
     assert!(rt; whole_cover(rt.alloc(), &mut parts, 2).err() == Some(TotalFault::Cover { why }));
     Ok(())
 }

@@ -17,12 +17,15 @@ use state_total::{FirstRefused, TotalFault};
 use state_whole::Sum;
 use std::alloc::Global;
 use std::test::Fail;
+use std::thread::Threads;
 
 const HEADER: &[u8] = b"k,v\n";
 
 /// Two parts of the rows, and all of them.
 const ONE: &[u8] = b"k,v\nbb,1\na,-2\nbb,\n";
+
 const OTHER: &[u8] = b"k,v\na,7\nccc,9\n";
+
 const ALL: &[u8] = b"k,v\nbb,1\na,-2\nbb,\na,7\nccc,9\n";
 
 const WHOLE: Whole<'_> = Whole {
@@ -54,22 +57,36 @@ fn parts(rt: HostRuntime) -> Result<(), Fail> {
         &map_of(alloc, &plan.bound, ALL)?.into_groups(),
     )?;
     let mut files = Vec::new(alloc);
-    push_part(alloc, &mut files, &plan, stretch_of(0, 16, Rows::Counted(3)), ONE)?;
+    push_part(
+        alloc,
+        &mut files,
+        &plan,
+        stretch_of(0, 16, Rows::Counted(3)),
+        ONE,
+    )?;
     let one = files.len();
-    push_part(alloc, &mut files, &plan, stretch_of(16, 29, Rows::Counted(2)), OTHER)?;
-    assert!(rt; text_from(&rt, &plan, files.as_slice())?.as_slice() == whole.as_slice());
+    push_part(
+        alloc,
+        &mut files,
+        &plan,
+        stretch_of(16, 29, Rows::Counted(2)),
+        OTHER,
+    )?;
+    assert!(rt; text_from(&rt, alloc, &plan, files.as_slice())?.as_slice() == whole.as_slice());
     let mut combined = Vec::new(alloc);
     let sum = load(alloc, &plan, files.as_slice())?;
     let done = push_combined(alloc, &mut combined, WHOLE, RANGE, sum, &plan.shape());
     assert!(rt; done.is_ok());
     assert!(rt; combined.len() < files.len());
-    assert!(rt; text_from(&rt, &plan, combined.as_slice())?.as_slice() == whole.as_slice());
+    assert!(rt; text_from(&rt, alloc, &plan, combined.as_slice())?.as_slice() == whole.as_slice());
     let half = load(alloc, &plan, files.as_slice().get(..one).unwrap_or(b""))?;
     let why = finish(&rt, alloc, &plan.plan, &plan.bound, WHOLE, RANGE, half, 1).err();
     let missing = match why {
-        Some(FinishFault::Total {
-            why: TotalFault::Missing { gap },
-        }) => gap.from == 16 && gap.to == Some(29),
+        Some(
+            FinishFault::Total {
+                why: TotalFault::Missing { gap },
+            },
+        ) => gap.from == 16 && gap.to == Some(29),
         _ => false,
     };
     assert!(rt; missing);
@@ -88,8 +105,20 @@ fn refused(rt: HostRuntime) -> Result<(), Fail> {
         item: 1,
     };
     let mut files = Vec::new(alloc);
-    push_part(alloc, &mut files, &plan, stretch_of(16, 29, Rows::Refused(why)), HEADER)?;
-    push_part(alloc, &mut files, &plan, stretch_of(0, 16, Rows::Counted(3)), ONE)?;
+    push_part(
+        alloc,
+        &mut files,
+        &plan,
+        stretch_of(16, 29, Rows::Refused(why)),
+        HEADER,
+    )?;
+    push_part(
+        alloc,
+        &mut files,
+        &plan,
+        stretch_of(0, 16, Rows::Counted(3)),
+        ONE,
+    )?;
     let mut combined = Vec::new(alloc);
     let sum = load(alloc, &plan, files.as_slice())?;
     assert!(rt; push_combined(alloc, &mut combined, WHOLE, RANGE, sum, &plan.shape()).is_ok());
@@ -100,7 +129,13 @@ fn refused(rt: HostRuntime) -> Result<(), Fail> {
         _ => None,
     };
     let row = RefusedRow { row: 5, ..why };
-    assert!(rt; first == Some(FirstRefused { source: 0, why: row }));
+    assert!(rt;
+        first
+            == Some(FirstRefused {
+                source: 0,
+                why: row
+            })
+    );
     Ok(())
 }
 
@@ -111,40 +146,53 @@ fn programs(rt: HostRuntime) -> Result<(), Fail> {
         return Err(Fail::new("no plan"));
     };
     let mut files = Vec::new(alloc);
-    push_part(alloc, &mut files, &plan, stretch_of(16, 29, Rows::Counted(2)), OTHER)?;
+    push_part(
+        alloc,
+        &mut files,
+        &plan,
+        stretch_of(16, 29, Rows::Counted(2)),
+        OTHER,
+    )?;
     let one = files.len();
-    push_part(alloc, &mut files, &plan, stretch_of(0, 16, Rows::Counted(3)), ONE)?;
-    let (status, combined, said) = answer(&rt, files.as_slice(), true)?;
+    push_part(
+        alloc,
+        &mut files,
+        &plan,
+        stretch_of(0, 16, Rows::Counted(3)),
+        ONE,
+    )?;
+    let (status, combined, said) = answer(&rt, alloc, files.as_slice(), true)?;
     assert!(rt; status == WRITTEN && said.is_empty());
-    let (status, text, said) = answer(&rt, combined.as_slice(), false)?;
+    let (status, text, said) = answer(&rt, alloc, combined.as_slice(), false)?;
     assert!(rt; status == WRITTEN && said.is_empty());
-    let table = b"k,count,sum(v),avg(v),max(v)\na,2,5,2.5000,7\nbb,2,1,1.0000,1\nccc,1,9,9.0000,9\n";
+    let table =
+        b"k,count,sum(v),avg(v),max(v)\na,2,5,2.5000,7\nbb,2,1,1.0000,1\nccc,1,9,9.0000,9\n";
     assert!(rt; text.as_slice() == table.as_slice());
     let half = files.as_slice().get(..one).unwrap_or(b"");
-    let (status, text, said) = answer(&rt, half, false)?;
+    let (status, text, said) = answer(&rt, alloc, half, false)?;
     assert!(rt; status == MISSING && text.is_empty());
     assert!(rt; said.as_slice() == b"parstream: source 0 from 0 to 16 is missing\n".as_slice());
     let cut = files.as_slice().get(..one + 30).unwrap_or(b"");
-    let (status, text, said) = answer(&rt, cut, false)?;
+    let (status, text, said) = answer(&rt, alloc, cut, false)?;
     assert!(rt; status == BAD_STATES && text.is_empty());
     assert!(rt; said.as_slice() == b"parstream: file 2: cut off in the head\n".as_slice());
-    let (status, _, said) = answer(&rt, b"", true)?;
+    let (status, _, said) = answer(&rt, alloc, b"", true)?;
     assert!(rt; status == BAD_STATES);
     assert!(rt; said.as_slice() == b"parstream: file 1: no states\n".as_slice());
     files.extend_from_slice(combined.as_slice())?;
-    let (status, _, said) = answer(&rt, files.as_slice(), true)?;
+    let (status, _, said) = answer(&rt, alloc, files.as_slice(), true)?;
     assert!(rt; status == BAD_STATES);
     assert!(rt; said.as_slice() == b"parstream: source 0 from 0 on is twice\n".as_slice());
     Ok(())
 }
 
 /// The status of combining or finalizing some files, what is written, and what is said.
-fn answer(
-    rt: &HostRuntime,
+fn answer<R: Threads + Sync>(
+    rt: &R,
+    alloc: Global,
     files: &[u8],
     combines: bool,
 ) -> Result<(u8, Vec<u8>, Vec<u8>), Fail> {
-    let alloc = rt.alloc();
     let mut bytes = Vec::new(alloc);
     bytes.extend_from_slice(files)?;
     let mut source = MemSource::new(bytes, 7, Vec::new(alloc));
@@ -213,18 +261,30 @@ fn load(alloc: Global, plan: &FilePlan, files: &[u8]) -> Result<Sum, Fail> {
         return Err(Fail::new("no front"));
     };
     let mut sum = Sum::new(alloc);
-    match add_files(alloc, &mut sum, files, front.head.whole, front.head.range, &plan.shape()) {
+    match add_files(
+        alloc,
+        &mut sum,
+        files,
+        front.head.whole,
+        front.head.range,
+        &plan.shape(),
+    ) {
         Ok(_) => Ok(sum),
         Err(_) => Err(Fail::new("no files")),
     }
 }
 
 /// The text of the table of some files.
-fn text_from(rt: &HostRuntime, plan: &FilePlan, files: &[u8]) -> Result<Vec<u8>, Fail> {
-    let sum = load(rt.alloc(), plan, files)?;
-    match finish(rt, rt.alloc(), &plan.plan, &plan.bound, WHOLE, RANGE, sum, 2) {
+fn text_from<R: Threads + Sync>(
+    rt: &R,
+    alloc: Global,
+    plan: &FilePlan,
+    files: &[u8],
+) -> Result<Vec<u8>, Fail> {
+    let sum = load(alloc, plan, files)?;
+    match finish(rt, alloc, &plan.plan, &plan.bound, WHOLE, RANGE, sum, 2) {
         Ok(Finished::Table(pieces)) => {
-            let mut text = Vec::new(rt.alloc());
+            let mut text = Vec::new(alloc);
             for piece in pieces {
                 text.extend_from_slice(piece.as_slice())?;
             }

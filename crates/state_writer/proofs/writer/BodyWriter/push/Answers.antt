@@ -30,11 +30,10 @@ returns-in_err-close-clause-long c =
     let kinds = c.args.kinds.now in
     let g = group_of c.args.key.now c.args.rows c.args.slots.now in
     let held = c.take.new.self in
-    let more = leb-true 60_000 (length held.block.items) (sym c.is_full.ensures ∙ c.if-not-is_full.false) in
     let why = err_from_is_err_and c.from_residual-in_err-close.result c.from_residual-in_err-close.ensures.1 in
     rw (why.1, why.2) (λ start groups written has e fit.
     let t = took kinds start (cut kinds groups) written c.args.self.now held c.args.key.now c.args.rows c.args.slots.now has did.index did.block did.groups did.first did.later in
-    c.in_err-close.ensures.long e (full_fits kinds start groups g written held t more fit))
+    c.in_err-close.ensures.long e (full_fits kinds start groups g written held t fit))
 
 pub returns-in_err-close-clause-same : goal.returns-in_err-close-clause-same
 returns-in_err-close-clause-same c =
