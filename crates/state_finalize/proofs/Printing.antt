@@ -6,7 +6,6 @@ use Rattle.std.proofs.lemmas.Option.{get_or_from_slice_get}
 use Rattle.std.proofs.lemmas.Simd.{map-map}
 use Rattle.std.specs.FinMap as finite
 use Rattle.std.specs.List.{IsDistinct, slice_get}
-use Rattle.par_model.specs.Named.{NamedPlan}
 use Rattle.par_model.specs.Plan.{Plan}
 use Rattle.par_model.specs.declared.state.AggState.{AggState}
 use Rattle.par_model.specs.declared.state.SlotState.{SlotState}
@@ -16,8 +15,7 @@ use Rattle.partial_agg.specs.Listed.{group, listed}
 use Rattle.partial_agg.specs.declared.groups.Group.{Group}
 use Rattle.partial_agg.proofs.Entries.{IsDistinct-keys}
 use Rattle.result_text.specs.Printable.{ArePrintable, IsKeyOf, IsSmallSlot}
-use Rattle.result_text.specs.Text.{AreLinesOf, IsTextOf}
-use Rattle.state_finalize.specs.Finished.{HaveSmallSlots, IsTextFrom}
+use Rattle.state_finalize.specs.Finished.{HaveSmallSlots}
 
 pub printable : (plan : Plan) (m : GroupsByKey) (groups : List Group) → groups ≡ listed m → All (λ (g : Group). IsKeyOf (length plan.groups) g.key) (listed m) → HaveSmallSlots groups → ArePrintable plan groups
 printable plan m groups is keys small = record {
@@ -25,15 +23,6 @@ printable plan m groups is keys small = record {
   keys = subst (All (λ (g : Group). IsKeyOf (length plan.groups) g.key)) (sym is) keys;
   slots = small;
 }
-
--- the text by the low end
-pub text_whole : (names : NamedPlan) (plan : Plan) (low : List ℕ) (m : GroupsByKey) (groups : List Group) (text : List ℕ) → length low ≡ 0 → groups ≡ listed m → IsTextOf names plan groups text → IsTextFrom names plan low m text
-text_whole names plan [] m groups text none is of = subst (λ (gs : List Group). IsTextOf names plan gs text) is of
-text_whole names plan (b ∷ low) m groups text none is of = absurd (omega (arith, none))
-
-pub text_lines : (names : NamedPlan) (plan : Plan) (low : List ℕ) (m : GroupsByKey) (groups : List Group) (text : List ℕ) → 0 < length low → groups ≡ listed m → AreLinesOf plan groups text → IsTextFrom names plan low m text
-text_lines names plan [] m groups text some is of = absurd (omega (arith, some))
-text_lines names plan (b ∷ low) m groups text some is of = subst (λ (gs : List Group). AreLinesOf plan gs text) is of
 
 -- ---- small slots
 

@@ -1,5 +1,5 @@
 -- What all files come to: the text of a table, or a refused row.
-use Rattle.std.specs.Prelude.{ℕ, List, [], ◌∷◌, All}
+use Rattle.std.specs.Prelude.{ℕ, List, All}
 use Rattle.par_model.specs.Named.{NamedPlan}
 use Rattle.par_model.specs.Plan.{Plan}
 use Rattle.partial_agg.specs.Groups.{GroupsByKey}
@@ -7,7 +7,7 @@ use Rattle.partial_agg.specs.Listed.{listed}
 use Rattle.partial_agg.specs.declared.groups.Group.{Group}
 use Rattle.result_text.specs.Pieces.{joined}
 use Rattle.result_text.specs.Printable.{IsSmallSlot}
-use Rattle.result_text.specs.Text.{AreLinesOf, IsTextOf}
+use Rattle.result_text.specs.Text.{IsTextOf}
 use Rattle.state_head.specs.declared.cover.Stretch.{Stretch}
 use Rattle.state_total.specs.Total.{IsCounted, IsFirstRefused, IsNoTotal, IsWholeCover}
 use Rattle.state_finalize.specs.declared.finishing.FinishFault.{FinishFault}
@@ -15,21 +15,16 @@ use Rattle.state_finalize.specs.declared.finishing.FinishFault.TheVariants as fa
 use Rattle.state_finalize.specs.declared.finishing.Finished.{Finished}
 use Rattle.state_finalize.specs.declared.finishing.Finished.TheVariants.{Refused, Table}
 
--- the text of some groups: the table, or its lines only
-abbrev pub IsTextFrom : NamedPlan → Plan → List ℕ → GroupsByKey → List ℕ → Type 0
-IsTextFrom names plan [] m text = IsTextOf names plan (listed m) text
-IsTextFrom names plan (byte ∷ low) m text = AreLinesOf plan (listed m) text
-
 -- what a map of groups and a cover of all bytes come to
-abbrev pub ComesTo : NamedPlan → Plan → List ℕ → GroupsByKey → List Stretch → Finished → Type 0
-ComesTo names plan low m cover (Table pieces) = All IsCounted cover × IsTextFrom names plan low m (joined pieces.items)
-ComesTo names plan low m cover (Refused row) = IsFirstRefused cover row
+abbrev pub ComesTo : NamedPlan → Plan → GroupsByKey → List Stretch → Finished → Type 0
+ComesTo names plan m cover (Table pieces) = All IsCounted cover × IsTextOf names plan (listed m) (joined pieces.items)
+ComesTo names plan m cover (Refused row) = IsFirstRefused cover row
 
 -- the stretches of all files are all bytes of so many sources, each once, and this is what they come to
-pub record IsFinished (names : NamedPlan) (plan : Plan) (low : List ℕ) (sources : ℕ) (m : GroupsByKey) (stretches : List Stretch) (f : Finished) : Type 0 where
+pub record IsFinished (names : NamedPlan) (plan : Plan) (sources : ℕ) (m : GroupsByKey) (stretches : List Stretch) (f : Finished) : Type 0 where
   pub cover : List Stretch
   pub is_whole : IsWholeCover sources stretches cover
-  pub comes_to : ComesTo names plan low m cover f
+  pub comes_to : ComesTo names plan m cover f
 
 -- counts and sums as at most 2^50 rows give them
 abbrev pub HaveSmallSlots : List Group → Type 0

@@ -1,18 +1,15 @@
 //! The end of a query in parts: if the stretches of all files are all bytes of all sources, each once, the text of their groups.
 
 ghost use Rattle.std.specs.Prelude.{◌≡◌, All, IfErr, IfOk, false, length, true};
-ghost use Rattle.partial_agg.specs.Groups.{GroupsByKey};
 ghost use Rattle.partial_agg.specs.Listed.{listed};
-ghost use Rattle.result_text.specs.Pieces.{joined};
-ghost use Rattle.result_text.specs.Printable.{ArePrintable, IsBoundFrom, IsKeyOf, IsSmallSlot};
-ghost use Rattle.state_finalize.specs.Finished.{HaveSmallSlots, IsFinished, IsNotFinished, IsTextFrom};
+ghost use Rattle.result_text.specs.Printable.{IsBoundFrom, IsKeyOf, IsSmallSlot};
+ghost use Rattle.state_finalize.specs.Finished.{HaveSmallSlots, IsFinished, IsNotFinished};
 ghost use Rattle.state_head.specs.Cover.{IsStretch};
 
 use par_model::{BoundPlan, SlotState};
 use partial_agg::Groups;
 use plan_spec::Plan;
-use result_text::{behind, lines_text, text_in_threads};
-use state_head::{KeyRange, Whole};
+use result_text::text_in_threads;
 use state_total::{FirstRefused, TotalFault, first_refused, whole_cover};
 use state_whole::Sum;
 use std::alloc::{AllocError, Global};
@@ -37,29 +34,27 @@ pub enum FinishFault {
     Rows,
 }
 
-/// What the sum of all files comes to, if they say this of themselves. Files of a range of keys that has a low end give the lines of
-/// that range, without a header, so that the texts of ranges, one after another, are the table. The lines are shared out to at most
-/// this many threads, the caller's among them; memory and time are those of [`text_in_threads`].
+/// What the sum of all files comes to, if they say this of themselves. The lines are shared out to at most this many threads, the
+/// caller's among them; memory and time are those of [`text_in_threads`].
 pub fn finish<R: Threads + Sync>(
     rt: &R,
     alloc: Global,
     plan: &Plan,
     bound: &BoundPlan,
-    whole: Whole<'_>,
-    range: KeyRange<'_>,
+    sources: u32,
     sum: Sum,
     threads: usize,
 ) -> Result<Finished, FinishFault>
     requires bound { IsBoundFrom plan.now.plan bound.now }
     requires keys { All (λ group. IsKeyOf (length bound.now.groups) group.key) (listed sum.map) }
-    requires stretches { All (IsStretch whole.sources) sum.cover.items }
-    ensures finished { IfOk result (IsFinished plan.now.plan bound.now range.low.now whole.sources sum.map sum.cover.items) }
+    requires stretches { All (IsStretch sources) sum.cover.items }
+    ensures finished { IfOk result (IsFinished plan.now.plan bound.now sources sum.map sum.cover.items) }
 
     // When each error comes.
-    ensures refused { IfErr result (IsNotFinished whole.sources sum.map sum.cover.items) }
+    ensures refused { IfErr result (IsNotFinished sources sum.map sum.cover.items) }
 {
     let (map, mut stretches) = sum.into_parts();
-    let cover = match whole_cover(alloc, &mut stretches, whole.sources) {
+    let cover = match whole_cover(alloc, &mut stretches, sources) {
         Ok(cover) => cover,
         Err(why) => return Err(FinishFault::Total { why }),
     };
@@ -70,7 +65,7 @@ pub fn finish<R: Threads + Sync>(
     if !are_small(&groups) {
         return Err(FinishFault::Rows);
     }
-    match text_from(rt, alloc, plan, bound, range.low, &groups, threads) {
+    match text_in_threads(rt, alloc, plan, bound, &groups, threads) {
         Ok(text) => Ok(Finished::Table(text)),
         Err(AllocError) => Err(FinishFault::Memory),
     }
@@ -115,25 +110,4 @@ fn is_small(slot: &SlotState) -> bool
         return false;
     }
     true
-}
-
-/// The text of some groups in pieces: the table, or if there is a low end its lines only.
-fn text_from<R: Threads + Sync>(
-    rt: &R,
-    alloc: Global,
-    plan: &Plan,
-    bound: &BoundPlan,
-    low: &[u8],
-    groups: &Groups,
-    threads: usize,
-) -> Result<Vec<Vec<u8>>, AllocError>
-    requires bound { IsBoundFrom plan.now.plan bound.now }
-    requires printable { ArePrintable bound.now groups.now }
-    ensures { IfOk result (λ pieces. (m : GroupsByKey) → groups.now ≡ listed m → IsTextFrom plan.now.plan bound.now low.now m (joined pieces.items)) }
-{
-    if low.is_empty() {
-        return text_in_threads(rt, alloc, plan, bound, groups, threads);
-    }
-    let lines = lines_text(alloc, bound, groups)?;
-    behind(alloc, lines, Vec::new(alloc))
 }

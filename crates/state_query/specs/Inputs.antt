@@ -7,7 +7,8 @@ use Rattle.par_model.specs.Plan.{Plan}
 use Rattle.partial_agg.specs.Groups.{GroupsByKey}
 use Rattle.plan_spec.specs.Query.{Query}
 use Rattle.state_combine.specs.Combined.{IsCombined}
-use Rattle.state_finalize.specs.Finished.{IsTextFrom}
+use Rattle.partial_agg.specs.Listed.{listed}
+use Rattle.result_text.specs.Text.{IsTextOf}
 use Rattle.state_head.specs.Head.{Subject, subject_of}
 use Rattle.state_head.specs.Words.{Keys, keys_of}
 use Rattle.state_load.specs.Loading.{AreParts, files_bytes, stretches_of, sum_of}
@@ -60,7 +61,7 @@ pub record HasText (i : Input) (text : List ℕ) : Type 0 where
   pub cover : List Stretch
   pub is_whole : IsWhole i cover
   pub counted : All IsCounted cover
-  pub is : IsTextFrom i.query.plan (bound_of i) i.keys.low (groups_in i) text
+  pub is : IsTextOf i.query.plan (bound_of i) (listed (groups_in i)) text
 
 -- the first refused row of all
 pub record HasRefusedRow (i : Input) (row : FirstRefused) : Type 0 where

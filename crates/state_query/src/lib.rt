@@ -116,12 +116,9 @@ fn finalize<R: Threads + Sync, S: Source, O: Sink>(
 {
     let bytes = read_input(alloc, source)?;
     let Loaded {
-        whole,
-        range,
-        plan,
-        sum,
+        whole, plan, sum, ..
     } = load(alloc, bytes.as_slice())?;
-    match finish(rt, alloc, &plan.plan, &plan.bound, whole, range, sum, threads) {
+    match finish(rt, alloc, &plan.plan, &plan.bound, whole.sources, sum, threads) {
         Ok(Finished::Table(pieces)) => {
             write_each(out, &pieces)?;
             Ok(())

@@ -181,7 +181,7 @@ impl Stop {
 /// Whether memory ran out for a file.
 fn is_memory(why: LoadCause) -> bool {
     match why {
-        LoadCause::Front { why } => why == FrontFault::Memory,
+        LoadCause::Front { why } => matches!(why, FrontFault::Memory),
         LoadCause::Other { .. } => false,
         LoadCause::File { why } => is_out(why),
     }
@@ -191,8 +191,8 @@ fn is_memory(why: LoadCause) -> bool {
 fn is_out(why: FileFault) -> bool {
     match why {
         FileFault::Memory => true,
-        FileFault::Body { why } => why == BodyFault::Memory,
-        FileFault::Group { why } => why == GroupFault::Memory,
+        FileFault::Body { why } => matches!(why, BodyFault::Memory),
+        FileFault::Group { why } => matches!(why, GroupFault::Memory),
         FileFault::Refused | FileFault::Rows => false,
     }
 }
