@@ -1,12 +1,11 @@
 -- The stretches of a cover up to its first refused row, and why there is no total.
-use Rattle.std.proofs.Common.{◌≡◌, ◌<◌, ◌≤◌, ◌+◌, ◌++◌, ◌∙◌, ℕ, suc, List, [], ◌∷◌, All, ap, arith, drop, get_or, length, refl, subst, sym, take}
+use Rattle.std.proofs.Common.{◌≡◌, ◌<◌, ◌+◌, ◌++◌, ◌∙◌, ℕ, suc, List, ◌∷◌, All, ap, arith, drop, get_or, length, refl, subst, sym, take}
 use Rattle.std.proofs.Math.Seq.{drop-cons}
 use Rattle.std.proofs.lemmas.List.{take-append-drop, take_all}
 use Rattle.std.proofs.lemmas.List.Elements.{All-more}
 use Rattle.state_cover.specs.Bytes.{IsMissing, had}
 use Rattle.state_cover.specs.declared.missing.Missing.{Missing}
 use Rattle.state_head.specs.declared.cover.RefusedRow.{RefusedRow}
-use Rattle.state_head.specs.declared.cover.Rows.{Rows}
 use Rattle.state_head.specs.declared.cover.Rows.TheVariants.{Counted, Refused}
 use Rattle.state_head.specs.declared.cover.Stretch.{Stretch}
 use Rattle.state_total.specs.Total.{AreCounted, IsCounted, IsFirstRefused, LacksBytes}
