@@ -4,8 +4,6 @@
 
 mod joining;
 mod missing;
-#[cfg(test)]
-mod tests;
 
 pub use joining::{CoverFault, join_cover};
 pub use missing::{Missing, missing_bytes};

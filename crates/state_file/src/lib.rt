@@ -6,8 +6,6 @@ mod checksum;
 mod front;
 mod number;
 mod section;
-#[cfg(test)]
-mod tests;
 mod text;
 
 pub use checksum::crc32c;

@@ -3,8 +3,6 @@
 #![tactic(auto)]
 
 mod front;
-#[cfg(test)]
-mod tests;
 mod title;
 
 pub use front::{FrontFault, FrontRead, FrontWrite, push_front, read_front};

@@ -4,8 +4,6 @@
 
 mod group;
 mod slot;
-#[cfg(test)]
-mod tests;
 
 pub use group::{push_group, read_group};
 pub use slot::{push_slot, read_slot};

@@ -5,8 +5,6 @@
 mod cover;
 mod head;
 mod list;
-#[cfg(test)]
-mod tests;
 mod whole;
 mod words;
 

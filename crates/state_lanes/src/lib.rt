@@ -5,8 +5,6 @@
 mod lanes;
 mod laws;
 mod slots;
-#[cfg(test)]
-mod tests;
 
 pub use lanes::{Lane, kinds_of, lanes_of};
 pub use laws::{lanes_come_back, rows_are_told};
