@@ -1,3 +1,5 @@
+mod Ends
 mod Keys
+mod Known
 mod Loads
 mod Sums

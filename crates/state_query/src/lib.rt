@@ -86,12 +86,13 @@ fn combine<S: Source, O: Sink>(
     ensures why { IfErr result (λ why. IfSome (S.left source.old) (λ bytes. IsStopOf bytes why)) }
 {
     let bytes = read_input(alloc, source)?;
+    let loaded = load(alloc, bytes.as_slice())?;
     let Loaded {
         whole,
         range,
         plan,
         sum,
-    } = load(alloc, bytes.as_slice())?;
+    } = loaded;
     let mut file = Vec::new(alloc);
     match push_combined(alloc, &mut file, whole, range, sum, &plan.shape()) {
         Ok(()) => {}
@@ -115,9 +116,10 @@ fn finalize<R: Threads + Sync, S: Source, O: Sink>(
     ensures why { IfErr result (λ why. IfSome (S.left source.old) (λ bytes. IsStopOf bytes why)) }
 {
     let bytes = read_input(alloc, source)?;
+    let loaded = load(alloc, bytes.as_slice())?;
     let Loaded {
         whole, plan, sum, ..
-    } = load(alloc, bytes.as_slice())?;
+    } = loaded;
     match finish(rt, alloc, &plan.plan, &plan.bound, whole.sources, sum, threads) {
         Ok(Finished::Table(pieces)) => {
             write_each(out, &pieces)?;

@@ -79,7 +79,7 @@ impl Stop {
     {
         match why {
             PlanFault::Memory => Stop::Memory,
-            PlanFault::Words | PlanFault::Header | PlanFault::Column => Stop::NoPlan,
+            _ => Stop::NoPlan,
         }
     }
 
