@@ -9,7 +9,7 @@ use Rattle.std.proofs.lemmas.List.Elements.{All-head, All-nil, All-push, All-tai
 use Rattle.state_file.specs.Number.{number_bytes, sevens}
 use Rattle.state_file.specs.Text.{text_bytes}
 use Rattle.state_head.specs.Words.{Words}
-use Rattle.state_plan.specs.Words.{AreTexts, HaveFilters, command_words, filter_word, option_words}
+use Rattle.state_plan.specs.Words.{AreTexts, HaveFilters, HaveNoCommand, command_words, filter_word, option_words}
 
 pub not_empty : (bs : List ℕ) (b : Bool) → b ≡ (length bs == 0) → b ≡ false → 0 < length bs
 not_empty [] b e f = absurd (true≢false (sym e ∙ f))
@@ -150,9 +150,10 @@ whole_command words filters w1 w2 w3 w4 e1 e2 e3 e4 =
     let three : w3 ≡ (g ++ a) ++ f = e3 ∙ ap (λ (ws : List (List ℕ)). ws ++ f) (e2 ∙ ap (λ (ws : List (List ℕ)). ws ++ a) e1) in
     e4 ∙ ap (λ (ws : List (List ℕ)). ws ++ d) three ∙ append_assoc (g ++ a) f d ∙ append_assoc g a (f ++ d)
 
--- one of four that is not true
-pub one_false : (a b c d : Bool) → (a && (b && (c && d))) ≡ false → ((a ≡ false) ⊎ (b ≡ false)) ⊎ ((c ≡ false) ⊎ (d ≡ false))
-one_false false b c d e = inl (inl refl)
-one_false true false c d e = inl (inr refl)
-one_false true true false d e = inr (inl refl)
-one_false true true true d e = inr (inr e)
+-- one of the four is no text
+pub no_command : (words : Words) (group agg filters decimals : Bool) → ((group ≡ false) ⊎ (agg ≡ false)) ⊎ ((filters ≡ false) ⊎ (decimals ≡ false)) → (group ≡ false → IsUtf8 words.group → ⊥) → (agg ≡ false → IsUtf8 words.agg → ⊥)
+    → (filters ≡ false → (fs : List (List ℕ)) → words.filter ≡ flat_map text_bytes fs → All IsShort fs → All IsUtf8 fs → ⊥) → (decimals ≡ false → IsUtf8 words.decimals → ⊥) → HaveNoCommand words
+no_command words group agg filters decimals (inl (inl e)) g a f d fs have texts = g e texts.group
+no_command words group agg filters decimals (inl (inr e)) g a f d fs have texts = a e texts.agg
+no_command words group agg filters decimals (inr (inl e)) g a f d fs have texts = f e fs have.are have.short texts.each
+no_command words group agg filters decimals (inr (inr e)) g a f d fs have texts = d e texts.decimals

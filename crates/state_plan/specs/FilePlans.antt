@@ -1,5 +1,5 @@
 -- The plan that a head names, over the columns of its header.
-use Rattle.std.specs.Prelude.{◌≡◌, ◌≢◌, ◌⊎◌, ℕ, List, None, Some, length}
+use Rattle.std.specs.Prelude.{◌≡◌, ◌≢◌, ◌≤◌, ◌⊎◌, ℕ, List, None, Some, length}
 use Rattle.csv_rows.specs.Records.{record_at, records_of}
 use Rattle.par_model.specs.Named.{bound_plan, missing_name}
 use Rattle.plan_spec.specs.Query.{Query, stream_query_of}
@@ -28,6 +28,7 @@ pub record IsPlanOf (s : Subject) (p : FilePlan) : Type 0 where
   pub bound : p.bound ≡ bound_plan (header_of s) p.plan.plan
   pub whole : missing_name (header_of s) p.plan.plan ≡ None
   pub lanes : p.lanes.items ≡ lanes_of p.bound.items
+  pub few : length p.lanes.items ≤ 8
   pub kinds : p.kinds.items ≡ kinds_of (lanes_of p.bound.items)
 
 -- a command line that asks for nothing

@@ -33,7 +33,7 @@ pub record IsCommand (words : Words) (command : List (List ℕ)) : Type 0 where
 pub record AreTexts (words : Words) (filters : List (List ℕ)) : Type 0 where
   pub group : IsUtf8 words.group
   pub agg : IsUtf8 words.agg
-  pub filters : All IsUtf8 filters
+  pub each : All IsUtf8 filters
   pub decimals : IsUtf8 words.decimals
 
 -- the filters are no texts, or not all words are UTF-8

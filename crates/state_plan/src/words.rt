@@ -1,6 +1,6 @@
 //! The words of a head as those of parstream's command line: each option in one word with its value.
 
-ghost use Rattle.std.specs.Prelude.{◌≡◌, ◌≤◌, ◌^◌, ◌++◌, ◌∷◌, [], ℕ, All, List, IfOk, MatchOption, Ok, false, length, map as map_list, string_bytes, true};
+ghost use Rattle.std.specs.Prelude.{◌≡◌, ◌≤◌, ◌^◌, ◌++◌, ◌⊎◌, ◌∷◌, [], ℕ, All, List, IfOk, MatchOption, Ok, false, length, map as map_list, string_bytes, true};
 ghost use Rattle.std.specs.List.{flat_map};
 ghost use Rattle.std.specs.Str.{IsUtf8};
 ghost use Rattle.state_file.specs.Text.{text_bytes};
@@ -27,11 +27,19 @@ pub fn command_words(
     let agg = push_option(alloc, &mut command, "--agg=", words.agg)?;
     let filters = push_filters(alloc, &mut command, words.filter)?;
     let decimals = push_option(alloc, &mut command, "--decimals=", words.decimals)?;
-    if group && agg && filters && decimals {
+    if are_all(group, agg, filters, decimals) {
         Ok(Some(command))
     } else {
         Ok(None)
     }
+}
+
+/// Whether all four are so.
+fn are_all(group: bool, agg: bool, filters: bool, decimals: bool) -> bool
+    ensures all { result ≡ true → (group ≡ true) × (agg ≡ true) × (filters ≡ true) × (decimals ≡ true) }
+    ensures not_all { result ≡ false → ((group ≡ false) ⊎ (agg ≡ false)) ⊎ ((filters ≡ false) ⊎ (decimals ≡ false)) }
+{
+    group && agg && filters && decimals
 }
 
 /// Puts an option at the end of some words, unless its value is empty, and says whether it is UTF-8.
