@@ -35,3 +35,9 @@ abbrev pub IsNotFinished : ℕ → GroupsByKey → List Stretch → FinishFault 
 IsNotFinished sources m stretches fault.Memory = Unit {0}
 IsNotFinished sources m stretches (fault.Total why) = IsNoTotal sources stretches why
 IsNotFinished sources m stretches fault.Rows = HaveSmallSlots (listed m) → ⊥
+
+-- why a map has no text
+abbrev pub IsNoText : GroupsByKey → FinishFault → Type 0
+IsNoText m fault.Memory = Unit {0}
+IsNoText m (fault.Total why) = ⊥
+IsNoText m fault.Rows = HaveSmallSlots (listed m) → ⊥

@@ -2,12 +2,14 @@
 
 ghost use Rattle.std.specs.Prelude.{◌≡◌, All, IfErr, IfOk, false, length, true};
 ghost use Rattle.partial_agg.specs.Listed.{listed};
+ghost use Rattle.result_text.specs.Pieces.{joined};
 ghost use Rattle.result_text.specs.Printable.{IsBoundFrom, IsKeyOf, IsSmallSlot};
-ghost use Rattle.state_finalize.specs.Finished.{HaveSmallSlots, IsFinished, IsNotFinished};
+ghost use Rattle.result_text.specs.Text.{IsTextOf};
+ghost use Rattle.state_finalize.specs.Finished.{HaveSmallSlots, IsFinished, IsNoText, IsNotFinished};
 ghost use Rattle.state_head.specs.Cover.{IsStretch};
 
 use par_model::{BoundPlan, SlotState};
-use partial_agg::Groups;
+use partial_agg::{GroupMap, Groups};
 use plan_spec::Plan;
 use result_text::text_in_threads;
 use state_total::{FirstRefused, TotalFault, first_refused, whole_cover};
@@ -58,15 +60,35 @@ pub fn finish<R: Threads + Sync>(
         Ok(cover) => cover,
         Err(why) => return Err(FinishFault::Total { why }),
     };
-    if let Some(row) = first_refused(cover.as_slice()) {
-        return Ok(Finished::Refused(row));
+    match first_refused(cover.as_slice()) {
+        Some(row) => Ok(Finished::Refused(row)),
+        None => match table_of(rt, alloc, plan, bound, map, threads) {
+            Ok(text) => Ok(Finished::Table(text)),
+            Err(why) => Err(why),
+        },
     }
+}
+
+/// The text of the table of a map of groups, if counts and sums are as at most 2^50 rows give them.
+fn table_of<R: Threads + Sync>(
+    rt: &R,
+    alloc: Global,
+    plan: &Plan,
+    bound: &BoundPlan,
+    map: GroupMap,
+    threads: usize,
+) -> Result<Vec<Vec<u8>>, FinishFault>
+    requires bound { IsBoundFrom plan.now.plan bound.now }
+    requires keys { All (λ group. IsKeyOf (length bound.now.groups) group.key) (listed map) }
+    ensures text { IfOk result (λ pieces. IsTextOf plan.now.plan bound.now (listed map) (joined pieces.items)) }
+    ensures refused { IfErr result (IsNoText map) }
+{
     let groups = map.into_groups();
     if !are_small(&groups) {
         return Err(FinishFault::Rows);
     }
     match text_in_threads(rt, alloc, plan, bound, &groups, threads) {
-        Ok(text) => Ok(Finished::Table(text)),
+        Ok(text) => Ok(text),
         Err(AllocError) => Err(FinishFault::Memory),
     }
 }

@@ -2,11 +2,13 @@ use Rattle.std.proofs.Common.{◌≡◌, arith, length}
 use Rattle.state_finalize.proofs.Printing.{groups_all, groups_more, groups_not}
 use Rattle.state_finalize.proofs.finishing.are_small.Goals as goal
 
-pub returns-then-not_are_small_slots-clause-not_small : goal.returns-then-not_are_small_slots-clause-not_small
-returns-then-not_are_small_slots-clause-not_small c = ?
+pub returns-then-not-are_small_slots-clause-not_small : goal.returns-then-not-are_small_slots-clause-not_small
+returns-then-not-are_small_slots-clause-not_small c = λ _ all.
+    groups_not c.args.groups.now c.loop-at.at c.state-state.result c.state-state.ensures c.loop-at-test.true (c.are_small_slots.ensures.not_small c.if-not-are_small_slots.true) all
 
 pub loop-at-preserved : goal.loop-at-preserved
-loop-at-preserved c = groups_more c.args.groups.now c.loop-at.at c.state.result c.state.ensures c.loop-at-test.true c.loop-at.invariant ?
+loop-at-preserved c =
+    groups_more c.args.groups.now c.loop-at.at c.state-state.result c.state-state.ensures c.loop-at-test.true c.loop-at.invariant (c.are_small_slots.ensures.small c.if-not-are_small_slots.false)
 
 pub returns-clause-small : goal.returns-clause-small
 returns-clause-small c =
