@@ -1,5 +1,5 @@
 -- One key more: all keys rise if it comes after the last one.
-use Rattle.std.proofs.Common.{◌≡◌, ◌++◌, ◌∙◌, ℕ, Bool, true, false, List, [], ◌∷◌, All, MatchOption, None, Option, Some, ap, map, not, refl, subst, sym}
+use Rattle.std.proofs.Common.{Bor, ◌≡◌, ◌++◌, ◌∙◌, ℕ, Bool, true, false, List, [], ◌∷◌, MatchOption, None, Option, Some, ap, map, refl, subst, sym}
 use Rattle.std.specs.List.{AllByRecursion}
 use Rattle.std.specs.List.Sorted.{IsStrictlySortedBy}
 use Rattle.std.specs.Ordering.{is_lt}
@@ -12,7 +12,7 @@ use Rattle.par_model.specs.Table.{columns_cmp}
 use Rattle.result_text.specs.KeyColumns.{columns_in}
 use Rattle.result_text.proofs.Columns.{columns_total}
 use Rattle.state_head.specs.Words.{Keys, keys_of}
-use Rattle.state_order.specs.Order.{AreInOrder, ComesBefore, DoesNotFollow, HasKeys, IsIn, IsLast, Rise}
+use Rattle.state_order.specs.Order.{ComesBefore, DoesNotFollow, HasKeys, IsIn, IsLast, Rise}
 use Rattle.state_order.specs.declared.order.KeyOrder.{KeyOrder}
 
 pub lt_is : (o : Ordering) → is_lt o ≡ true → o ≡ Less
@@ -66,18 +66,21 @@ Follows order key = MatchOption order.last (Unit {0}) (λ last. ComesBefore orde
 
 -- ---- what came so far
 
+abbrev no_key : List (List ℕ)
+no_key = []
+
 pub no_keys : (columns : ℕ) (range : Keys) (order : KeyOrder) → order.columns ≡ columns → keys_of order.range ≡ range → order.last ≡ None → HasKeys columns range [] order
 no_keys columns range order same is none = record {
   columns_are = same;
   range_is = is;
-  last_is = subst (λ last. MatchOption last ([] ≡ []) (λ k. IsLast [] k.now)) (sym none) refl;
+  last_is = subst (λ (last : Option (Bor (List ℕ))). MatchOption last (no_key ≡ []) (λ k. IsLast no_key k.now)) (sym none) refl;
   are = record { rise = none_rises; each = All-nil (IsIn columns range) };
 }
 
 one_more : (columns : ℕ) (range : Keys) (keys : List (List ℕ)) (key : List ℕ) (old : KeyOrder) → HasKeys columns range keys old → Follows old key → Rise columns (keys ++ key ∷ [])
 one_more columns range keys key old has follows = go old.last has.last_is follows
   where
-    go : (last : _) → MatchOption last (keys ≡ []) (λ l. IsLast keys l.now) → MatchOption last (Unit {0}) (λ l. ComesBefore old.columns l.now key) → Rise columns (keys ++ key ∷ [])
+    go : (last : Option (Bor (List ℕ))) → MatchOption last (keys ≡ []) (λ l. IsLast keys l.now) → MatchOption last (Unit {0}) (λ l. ComesBefore old.columns l.now key) → Rise columns (keys ++ key ∷ [])
     go None none follow = first_rises columns keys key none
     go (Some last) is follow = rises columns keys is.front last.now key is.is has.are.rise (subst (λ (n : ℕ). ComesBefore n last.now key) has.columns_are follow)
 
@@ -93,7 +96,7 @@ key_more columns range keys key old new has follows is_in same within last = rec
   };
 }
   where
-    go : (l : _) → MatchOption l ⊥ (λ k. k.now ≡ key) → MatchOption l (keys ++ key ∷ [] ≡ []) (λ k. IsLast (keys ++ key ∷ []) k.now)
+    go : (l : Option (Bor (List ℕ))) → MatchOption l ⊥ (λ k. k.now ≡ key) → MatchOption l (keys ++ key ∷ [] ≡ []) (λ k. IsLast (keys ++ key ∷ []) k.now)
     go None is = absurd is
     go (Some k) is = record { front = keys; is = ap (λ (x : List ℕ). keys ++ x ∷ []) (sym is) }
 
@@ -102,7 +105,7 @@ key_more columns range keys key old new has follows is_in same within last = rec
 pub not_next : (columns : ℕ) (range : Keys) (keys : List (List ℕ)) (key : List ℕ) (old : KeyOrder) → HasKeys columns range keys old → (Follows old key → ⊥) → DoesNotFollow columns keys key
 not_next columns range keys key old has none = go old.last has.last_is none
   where
-    go : (last : _) → MatchOption last (keys ≡ []) (λ l. IsLast keys l.now) → (MatchOption last (Unit {0}) (λ l. ComesBefore old.columns l.now key) → ⊥) → DoesNotFollow columns keys key
+    go : (last : Option (Bor (List ℕ))) → MatchOption last (keys ≡ []) (λ l. IsLast keys l.now) → (MatchOption last (Unit {0}) (λ l. ComesBefore old.columns l.now key) → ⊥) → DoesNotFollow columns keys key
     go None is none = absurd (none tt)
     go (Some last) is none = record { last = last.now; is_last = is; not_before = λ less. none (subst (λ (n : ℕ). ComesBefore n last.now key) (sym has.columns_are) less) }
 

@@ -1,16 +1,19 @@
 -- The file that is written.
-use Rattle.std.proofs.Common.{◌≡◌, ◌++◌, ◌∙◌, ℕ, Bool, List, [], All, ap, append_assoc, get_or, length, map, refl, subst, sym}
+use Rattle.std.proofs.Common.{◌≡◌, ◌<◌, ◌++◌, ◌∙◌, ℕ, Bool, List, [], All, ap, append_assoc, get_or, length, map, refl, subst, sym}
+use Rattle.std.proofs.lemmas.List.{length-map}
 use Rattle.std.proofs.lemmas.List.Elements.{All-map}
-use Rattle.std.proofs.lemmas.List.Sorted.{All-permutation}
+use Rattle.std.proofs.lemmas.List.Sorted.{All-permutation, length_permutation}
 use Rattle.partial_agg.specs.declared.groups.Group.{Group as MapGroup}
 use Rattle.state_blocks.specs.Blocks.{Group, IsTuple}
 use Rattle.state_body.specs.Body.{IsBody, body_bytes}
-use Rattle.state_front.specs.Front.{front_bytes}
+use Rattle.state_front.specs.Front.{IsFront, front_bytes}
 use Rattle.state_head.specs.Head.{Preface}
-use Rattle.state_save.specs.Saving.{AreTuplesOf, AreWritten, IsFileOf, IsTold, tuple_of}
+use Rattle.state_save.specs.Saving.{AreTuplesOf, AreWritten, IsFileOf, IsTold, SavedIsRead, tuple_of}
+use Rattle.state_order.specs.Order.{IsIn}
 use Rattle.state_save.proofs.Slots.{is_tuple}
-use Rattle.state_whole.specs.Adding.{IsShape}
-use Rattle.state_whole.specs.Files.{StateFile, file_bytes}
+use Rattle.state_whole.specs.Adding.{IsShape, key_of}
+use Rattle.state_whole.specs.Files.{StateFile, file_bytes, tuples_in}
+use Rattle.state_whole.specs.Sums.{AreFileGroups}
 use Rattle.state_whole.specs.declared.adding.Shape.{Shape}
 use Rattle.state_writer.specs.Writing.{blocks_of}
 use Rattle.state_writer.proofs.Laws.{blocks_have, body_is}
@@ -41,3 +44,18 @@ is_file shape preface groups at old mid new is front same written =
       },
       ends.is ∙ ap (λ (bs : List ℕ). bs ++ ends.more) front ∙ append_assoc old (front_bytes preface) ends.more ∙ ap (λ (bs : List ℕ). old ++ bs) (put_at kinds preface blocks at ends.more same ends.body),
     )
+
+-- ---- what is saved is read
+
+pub saved_read : SavedIsRead
+saved_read shape preface groups f can is =
+    let counts : length (tuples_in f) ≡ length groups = length_permutation (map (tuple_of shape) groups) (tuples_in f) is.are.same ∙ length-map groups (tuple_of shape) in
+    let within = All-permutation (λ (t : Group). IsIn shape.columns preface.keys t.key) (map (tuple_of shape) groups) (tuples_in f) is.are.same (All-map (λ (t : Group). IsIn shape.columns preface.keys t.key) (tuple_of shape) groups can.within) in
+    record {
+      is_front = subst IsFront (sym is.preface_is) can.is_front;
+      are_groups = subst (λ (p : Preface). AreFileGroups shape.columns shape.kinds.now p (length (front_bytes p)) f.blocks) (sym is.preface_is) (record {
+        is_body = is.is_body can.told;
+        in_order = record { rise = is.are.rise; each = All-map (IsIn shape.columns preface.keys) key_of (tuples_in f) within };
+        counted = λ some refused. can.counted (subst (λ (n : ℕ). 0 < n) counts some) refused;
+      });
+    }

@@ -1,17 +1,18 @@
 -- What a file has of the groups of a map.
-use Rattle.std.specs.Prelude.{◌≡◌, ◌++◌, ℕ, List, All, length, map}
+use Rattle.std.specs.Prelude.{◌≡◌, ◌<◌, ◌++◌, ℕ, List, All, length, map}
 use Rattle.std.specs.List.Sorted.{IsPermutation}
 use Rattle.partial_agg.specs.declared.groups.Group.{Group as MapGroup}
 use Rattle.result_text.specs.GroupOrder.{group_of}
 use Rattle.result_text.specs.declared.order.GroupRef.{GroupRef}
 use Rattle.state_blocks.specs.Blocks.{Group, IsTuple}
 use Rattle.state_body.specs.Body.{IsBody, body_bytes}
-use Rattle.state_front.specs.Front.{front_bytes}
+use Rattle.state_front.specs.Front.{IsFront, front_bytes}
 use Rattle.state_head.specs.Head.{Preface}
 use Rattle.state_lanes.specs.Lanes.{lane_slots}
-use Rattle.state_order.specs.Order.{Rise}
+use Rattle.state_order.specs.Order.{IsIn, Rise}
 use Rattle.state_whole.specs.Adding.{key_of, state_of}
-use Rattle.state_whole.specs.Files.{StateFile, file_bytes, tuples_in}
+use Rattle.state_whole.specs.Files.{IsStateFile, StateFile, file_bytes, tuples_in}
+use Rattle.state_whole.specs.Sums.{HasRefused}
 use Rattle.state_whole.specs.declared.adding.Shape.{Shape}
 use Rattle.state_writer.specs.Writing.{Ends}
 
@@ -45,3 +46,14 @@ pub record IsFileOf (shape : Shape) (preface : Preface) (groups : List MapGroup)
   pub preface_is : f.preface ≡ preface
   pub are : AreTuplesOf shape groups (tuples_in f)
   pub is_body : All (IsTold shape) groups → IsBody shape.columns shape.kinds.now (length (front_bytes preface)) f.blocks
+
+-- a file that a reader takes: a right head, groups that rows can give, which lie within its range, and no group if a row is refused
+pub record CanBeRead (shape : Shape) (preface : Preface) (groups : List MapGroup) : Type 0 where
+  pub is_front : IsFront preface
+  pub told : All (IsTold shape) groups
+  pub within : All (λ group. IsIn shape.columns preface.keys group.key) groups
+  pub counted : 0 < length groups → HasRefused preface.cover → ⊥
+
+-- what is saved so is read
+abbrev pub SavedIsRead : Type 0
+SavedIsRead = (shape : Shape) (preface : Preface) (groups : List MapGroup) (f : StateFile) → CanBeRead shape preface groups → IsFileOf shape preface groups f → IsStateFile shape.columns shape.kinds.now f

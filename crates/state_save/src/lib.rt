@@ -2,6 +2,8 @@
 
 #![tactic(auto)]
 
+mod laws;
 mod saving;
 
+pub use laws::saved_is_read;
 pub use saving::{push_file, push_groups};

@@ -27,6 +27,7 @@ use std::alloc::Global;
 
 /// Puts a file of some groups at the end of `out`: this head, and the groups in the order of the table. It takes memory for the file,
 /// and 24 bytes a group; time is that of the file, and of n log n comparisons of the keys of n groups.
+/// After an error the bytes at the end of `out` are of no use.
 pub fn push_file(
     alloc: Global,
     out: &mut Vec<u8>,

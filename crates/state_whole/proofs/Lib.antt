@@ -1,7 +1,7 @@
 mod Adds
 mod Bodies
 mod Bounds
-mod Files
+mod Sums
 mod Refusals
 mod Runs
 mod Subjects

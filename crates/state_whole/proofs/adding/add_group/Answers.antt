@@ -35,7 +35,7 @@ returns-clause-added c = λ start range groups g rest has is e.
     let made : state ≡ state_of shape g = (λ i. record { rows = same.2 i; slots = (c.item_slots.ensures ∙ slots) i }) in
     let sum = c.in-Ok.ensures.ok ∙ ap (λ (k : List ℕ). added c.args.map.now k state) same.0 ∙ ap (λ (s : AggState). added c.args.map.now g.key s) made in
     let next = subst (λ (k : List ℕ). HasKeys shape.columns range (map key_of groups ++ k ∷ []) c.next_key.new.order) same.0 (c.in_ok-next_key.ensures shape.columns range (map key_of groups) has.keys) in
-    (same.1, added_more shape range start groups g c.args.map.now c.add_bytes.new.map c.args.order.now c.next_key.new.order c.args.count.now _ has sum next refl (omega (arith, c.max.ensures)) (omega (arith, c.max.ensures, same.2)))
+    (same.1, added_more shape range start groups g c.args.map.now c.add_bytes.new.map c.args.order.now c.next_key.new.order c.args.count.now _ has sum next refl (omega (arith, c.larger.ensures.first)) (omega (arith, c.larger.ensures.second, same.2)))
 
 pub returns-clause-shorter : goal.returns-clause-shorter
 returns-clause-shorter c =

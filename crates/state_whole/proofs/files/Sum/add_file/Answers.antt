@@ -1,6 +1,6 @@
 use Rattle.std.proofs.lemmas.Result.{err_from_is_err_and}
 use Rattle.state_head.specs.Head.{preface_of}
-use Rattle.state_whole.proofs.Files.{no_groups, not_added}
+use Rattle.state_whole.proofs.Sums.{no_groups, not_added}
 use Rattle.state_whole.proofs.files.Sum.add_file.Goals as goal
 
 pub returns-in_err-body-clause-refused : goal.returns-in_err-body-clause-refused

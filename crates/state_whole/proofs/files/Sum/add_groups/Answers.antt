@@ -3,7 +3,7 @@ use Rattle.state_body.specs.Body.{groups_of}
 use Rattle.state_head.specs.Words.{keys_of}
 use Rattle.state_head.specs.declared.cover.Stretch.{Stretch}
 use Rattle.state_whole.proofs.Bodies.{none_has}
-use Rattle.state_whole.proofs.Files.{past_bound, sum_few, summed}
+use Rattle.state_whole.proofs.Sums.{past_bound, sum_few, summed}
 use Rattle.state_whole.proofs.files.Sum.add_groups.Goals as goal
 
 -- what was put at the end of a list
