@@ -80,7 +80,7 @@ fn parts(rt: HostRuntime) -> Result<(), Fail> {
     assert!(rt; combined.len() < files.len());
     assert!(rt; text_from(&rt, alloc, &plan, combined.as_slice())?.as_slice() == whole.as_slice());
     let half = load(alloc, &plan, files.as_slice().get(..one).unwrap_or(b""))?;
-    let why = finish(&rt, alloc, &plan.plan, &plan.bound, WHOLE, RANGE, half, 1).err();
+    let why = finish(&rt, alloc, &plan.plan, &plan.bound, WHOLE.sources, half, 1).err();
     let missing = match why {
         Some(
             FinishFault::Total {
@@ -124,7 +124,7 @@ fn refused(rt: HostRuntime) -> Result<(), Fail> {
     assert!(rt; push_combined(alloc, &mut combined, WHOLE, RANGE, sum, &plan.shape()).is_ok());
     let sum = load(alloc, &plan, combined.as_slice())?;
     assert!(rt; sum.map.len() == 0 && sum.cover.len() == 1);
-    let first = match finish(&rt, alloc, &plan.plan, &plan.bound, WHOLE, RANGE, sum, 1) {
+    let first = match finish(&rt, alloc, &plan.plan, &plan.bound, WHOLE.sources, sum, 1) {
         Ok(Finished::Refused(first)) => Some(first),
         _ => None,
     };
@@ -282,7 +282,7 @@ fn text_from<R: Threads + Sync>(
     files: &[u8],
 ) -> Result<Vec<u8>, Fail> {
     let sum = load(alloc, plan, files)?;
-    match finish(rt, alloc, &plan.plan, &plan.bound, WHOLE, RANGE, sum, 2) {
+    match finish(rt, alloc, &plan.plan, &plan.bound, WHOLE.sources, sum, 2) {
         Ok(Finished::Table(pieces)) => {
             let mut text = Vec::new(alloc);
             for piece in pieces {
