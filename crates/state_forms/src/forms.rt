@@ -43,7 +43,11 @@ pub fn form_of(words: &[String]) -> Option<Form>
         return Some(if is_one { Form::Combine } else { Form::Misused });
     }
     if word.as_str() == "finalize" {
-        return Some(if is_one { Form::Finalize } else { Form::Misused });
+        return Some(if is_one {
+            Form::Finalize
+        } else {
+            Form::Misused
+        });
     }
     None
 }
@@ -71,7 +75,10 @@ pub fn run_form<R: Threads + Sync, S: Source, O: Sink, E: Sink>(
         Form::Combine => combine_states(alloc, source, out, err),
         Form::Finalize => finalize_states(rt, alloc, THREADS, source, out, err),
         Form::Misused => {
-            let _ = write_pieces(err, &["parstream: usage: parstream combine < STATES, or parstream finalize < STATES\n"]);
+            let _ = write_pieces(
+                err,
+                &["parstream: usage: parstream combine < STATES, or parstream finalize < STATES\n"],
+            );
             MISUSED
         }
     }

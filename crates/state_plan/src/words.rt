@@ -16,10 +16,7 @@ use std::str;
 const MOST_WORD: u64 = 1 << 20;
 
 /// The words of a command line that say the same as those of a head, if these are UTF-8. It takes memory for them.
-pub fn command_words(
-    alloc: Global,
-    words: PlanWords<'_>,
-) -> Result<Option<Vec<String>>, AllocError>
+pub fn command_words(alloc: Global, words: PlanWords<'_>) -> Result<Option<Vec<String>>, AllocError>
     ensures { IfOk result (λ found. MatchOption found (HaveNoCommand (words_of words.entry)) (λ command. IsCommand (words_of words.entry) (map_list string_bytes command.items))) }
 {
     let mut command = Vec::new(alloc);
@@ -59,11 +56,7 @@ fn push_option(
 }
 
 /// Puts each of some texts as a filter at the end of some words, and says whether they are texts, and UTF-8.
-fn push_filters(
-    alloc: Global,
-    command: &mut Vec<String>,
-    texts: &[u8],
-) -> Result<bool, AllocError>
+fn push_filters(alloc: Global, command: &mut Vec<String>, texts: &[u8]) -> Result<bool, AllocError>
     ensures put { result ≡ Ok true → (filters : List (List ℕ)) × (texts.now ≡ flat_map text_bytes filters) × All (λ text. length text ≤ 2 ^ 20) filters
         × (map_list string_bytes command.new.items ≡ map_list string_bytes command.old.items ++ map_list filter_word filters) }
     ensures no_texts { result ≡ Ok false → (filters : List (List ℕ)) → texts.now ≡ flat_map text_bytes filters → All (λ text. length text ≤ 2 ^ 20) filters → All IsUtf8 filters → ⊥ }

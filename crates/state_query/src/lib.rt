@@ -75,11 +75,7 @@ pub fn finalize_states<R: Threads + Sync, S: Source, O: Sink, E: Sink>(
 }
 
 /// Reads files, and writes them as one.
-fn combine<S: Source, O: Sink>(
-    alloc: Global,
-    source: &mut S,
-    out: &mut O,
-) -> Result<(), Stop>
+fn combine<S: Source, O: Sink>(alloc: Global, source: &mut S, out: &mut O) -> Result<(), Stop>
     ensures states { OnOk result (IfSome (S.left source.old) (λ bytes. (i : Input) × IsInput bytes i × (f : StateFile) × IsOneFile i f
         × Appends (O.taken out.old) (O.taken out.new) (file_bytes i.shape.kinds.now f))) }
     ensures nothing { IfErr result (λ why. (why ≢ stop.WriteFault) → out.new ≡ out.old) }
@@ -118,9 +114,20 @@ fn finalize<R: Threads + Sync, S: Source, O: Sink>(
     let bytes = read_input(alloc, source)?;
     let loaded = load(alloc, bytes.as_slice())?;
     let Loaded {
-        whole, plan, sum, ..
+        whole,
+        plan,
+        sum,
+        ..
     } = loaded;
-    match finish(rt, alloc, &plan.plan, &plan.bound, whole.sources, sum, threads) {
+    match finish(
+        rt,
+        alloc,
+        &plan.plan,
+        &plan.bound,
+        whole.sources,
+        sum,
+        threads,
+    ) {
         Ok(Finished::Table(pieces)) => {
             write_each(out, &pieces)?;
             Ok(())

@@ -221,26 +221,66 @@ fn plain<'a>(text: &'a str) -> [&'a str; 9]
 fn of_file<'a>(number: &'a str, said: [&'a str; 3]) -> [&'a str; 9]
     ensures { concat (map (λ piece. piece.now) result) ≡ line (codes "file " ++ (number.now ++ (codes ": " ++ concat (map (λ piece. piece.now) said)))) }
 {
-    ["parstream: ", "file ", number, ": ", said[0], said[1], said[2], "", "\n"]
+    [
+        "parstream: ",
+        "file ",
+        number,
+        ": ",
+        said[0],
+        said[1],
+        said[2],
+        "",
+        "\n",
+    ]
 }
 
 /// The pieces of a line of a row of a source.
 fn of_row<'a>(source: &'a str, row: &'a str, said: &'a str) -> [&'a str; 9]
     ensures { concat (map (λ piece. piece.now) result) ≡ line (codes "source " ++ (source.now ++ (codes " row " ++ (row.now ++ (codes ": " ++ said.now))))) }
 {
-    ["parstream: ", "source ", source, " row ", row, ": ", said, "", "\n"]
+    [
+        "parstream: ",
+        "source ",
+        source,
+        " row ",
+        row,
+        ": ",
+        said,
+        "",
+        "\n",
+    ]
 }
 
 /// The pieces of a line that is a text of five pieces.
 fn of_five<'a>(said: [&'a str; 5]) -> [&'a str; 9]
     ensures { concat (map (λ piece. piece.now) result) ≡ line (concat (map (λ piece. piece.now) said)) }
 {
-    ["parstream: ", said[0], said[1], said[2], said[3], said[4], "", "", "\n"]
+    [
+        "parstream: ",
+        said[0],
+        said[1],
+        said[2],
+        said[3],
+        said[4],
+        "",
+        "",
+        "\n",
+    ]
 }
 
 /// The pieces of a line that is a text of seven pieces.
 fn of_seven<'a>(said: [&'a str; 7]) -> [&'a str; 9]
     ensures { concat (map (λ piece. piece.now) result) ≡ line (concat (map (λ piece. piece.now) said)) }
 {
-    ["parstream: ", said[0], said[1], said[2], said[3], said[4], said[5], said[6], "\n"]
+    [
+        "parstream: ",
+        said[0],
+        said[1],
+        said[2],
+        said[3],
+        said[4],
+        said[5],
+        said[6],
+        "\n",
+    ]
 }

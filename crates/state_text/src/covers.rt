@@ -18,7 +18,13 @@ pub fn cover_pieces<'a>(
         CoverFault::Memory => ["out of memory", "", "", "", ""],
         CoverFault::Twice { source, at } => {
             let source = one.format(source);
-            ["source ", source, " from ", other.format(at), " on is twice"]
+            [
+                "source ",
+                source,
+                " from ",
+                other.format(at),
+                " on is twice",
+            ]
         }
         CoverFault::Size { source } => {
             ["source ", one.format(source), " has another size", "", ""]
@@ -44,7 +50,15 @@ pub fn gap_pieces<'a>(
         None => ["source ", source, " is missing", "", "", "", ""],
         Some(to) => {
             let from = other.format(gap.from);
-            ["source ", source, " from ", from, " to ", third.format(to), " is missing"]
+            [
+                "source ",
+                source,
+                " from ",
+                from,
+                " to ",
+                third.format(to),
+                " is missing",
+            ]
         }
     }
 }
