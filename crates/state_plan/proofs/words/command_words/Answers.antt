@@ -1,5 +1,4 @@
-use Rattle.std.proofs.Common.{◌≡◌, ◌++◌, ◌∙◌, Bool, List, Ok, [], ℕ, ap, codes, map, string_bytes}
-use Rattle.std.specs.Global.{String}
+use Rattle.std.proofs.Common.{◌≡◌, ◌++◌, ◌∙◌, Bool, List, Ok, String, [], ℕ, ap, codes, map, string_bytes}
 use Rattle.state_head.specs.Words.{words_of}
 use Rattle.state_plan.specs.Words.{option_words}
 use Rattle.state_plan.proofs.Commands.{no_command, whole_command}
