@@ -1,4 +1,4 @@
-use Rattle.std.proofs.Common.{◌≡◌, ◌++◌, ◌∙◌, Bool, List, Ok, String, [], ℕ, ap, codes, map, string_bytes}
+use Rattle.std.proofs.Common.{◌≡◌, ◌++◌, ◌∙◌, Bool, Global, List, Ok, String, [], ℕ, ap, codes, map, string_bytes}
 use Rattle.state_head.specs.Words.{words_of}
 use Rattle.state_plan.specs.Words.{option_words}
 use Rattle.state_plan.proofs.Commands.{no_command, whole_command}
@@ -8,7 +8,7 @@ pub returns-then-are_all : goal.returns-then-are_all
 returns-then-are_all c =
     let words = words_of c.args.words in
     let t = c.are_all.ensures.all c.if-are_all.true in
-    let first = c.in_ok-group.ensures.put (ap (λ (b : Bool). Ok b) t.0) ∙ ap (λ (ss : List String). map string_bytes ss ++ option_words (codes "--group=") words.group) c.new-command.ensures.items in
+    let first = c.in_ok-group.ensures.put (ap (λ (b : Bool). Ok b) t.0) ∙ ap (λ (ss : List (String Global)). map string_bytes ss ++ option_words (codes "--group=") words.group) c.new-command.ensures.items in
     let filters = c.in_ok-filters.ensures.put (ap (λ (b : Bool). Ok b) t.2) in
     record {
       filters = filters.0;
