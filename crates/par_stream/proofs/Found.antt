@@ -1,13 +1,35 @@
 -- A row of some pieces by its number over all of them.
-use Rattle.std.proofs.Common.{◌≡◌, ◌<◌, ◌≤◌, ◌+◌, ◌-◌, ◌++◌, ◌∙◌, ℕ, List, [], ◌∷◌, length, take, drop, get_or, map, ap, sym, subst, arith, append-nil, append_assoc, length-append, take-append-drop}
+use Rattle.std.proofs.Common.{◌≡◌, ◌<◌, ◌≤◌, ◌+◌, ◌-◌, ◌++◌, ◌∙◌, inl, inr, ℕ, zero, suc, List, [], ◌∷◌, length, take, drop, get_or, map, ap, sym, subst, arith, append-nil, append_assoc, length-append, take-append-drop}
 use Rattle.std.proofs.lemmas.List.{drop_more, get_or-append-add, get_or_append_left, map-append, take_more}
 use Rattle.std.proofs.lemmas.List.Concat.{flat_map-append}
 use Rattle.std.proofs.lemmas.Grind.{get_or_after_one}
-use Rattle.csv_rows.specs.Records.{record_at}
+use Rattle.csv_rows.specs.Records.{record_at, records_of}
 use Rattle.row_blocks.specs.Blocks.{Table}
+use Rattle.row_windows.specs.Seams.{BeginsLine}
 use Rattle.row_windows.specs.Stretch.{Stretch}
 use Rattle.gather_law.specs.Shares.{together}
 use Rattle.split_run.specs.Pieces.{AreUnder, piece_records, piece_rows, rows_of}
+use Rattle.text_lines.proofs.Ends.{no_records}
+use Rattle.par_stream.specs.Begins.{IsLined, lines_of, piece_at}
+
+-- a piece by its number
+pub same_there : (pieces : List Stretch) (at : ℕ) (p : Stretch) → at < length pieces → p ≡ get_or pieces at p → p ≡ piece_at pieces at
+same_there [] at p low is = absurd (omega (arith, low))
+same_there (q ∷ pieces) zero p low is = is
+same_there (q ∷ pieces) (suc at) p low is = same_there pieces at p (omega (arith, low)) is
+
+-- lines of a piece are lines of all
+pub some_lines : (pieces : List Stretch) (at n : ℕ) → at < length pieces → n < length (piece_at pieces at).lines → 0 < length (lines_of pieces)
+some_lines [] at n low some = absurd (omega (arith, low))
+some_lines (p ∷ pieces) zero n low some = omega (arith, some, length-append p.lines (lines_of pieces))
+some_lines (p ∷ pieces) (suc at) n low some = omega (arith, some_lines pieces at n (omega (arith, low)) some, length-append p.lines (lines_of pieces))
+
+-- one that has a row has lines
+pub begins_if : (p : Stretch) → IsLined p → 0 < length (piece_rows p) → BeginsLine p.lines
+begins_if p lined some = elim lined.begins [
+  | inl none ↦ absurd (omega (arith, some, ap length lined.rows, ap (λ (l : List ℕ). length (records_of l)) none, ap length no_records))
+  | inr line ↦ line
+]
 
 -- a row of a window is behind the rows before the window
 pub row_there : (header : List (List ℕ)) (rows wrows more : Table) (row : ℕ) → 1 ≤ row → row < length (header ∷ wrows)

@@ -19,19 +19,21 @@ use Rattle.split_run.specs.Causes.{IsFirstCause, IsLow}
 use Rattle.split_run.specs.Pieces.{AreUnder, HaveColumns, rows_of}
 use Rattle.table_query.specs.Refused.{refused_in}
 use Rattle.table_query.proofs.RefusedRows.{refused_first, refused_in-none}
+use Rattle.par_stream.specs.Begins.{IsLined, PlacesRow, lines_of}
 use Rattle.par_stream.specs.Outcome.{outcome, outcome_over}
-use Rattle.par_stream.specs.Reading.{Begins, HasAll, IsBound, Reaches}
+use Rattle.par_stream.specs.Reading.{Begins, HasAll, HasPart, IsBound, Reaches}
 use Rattle.par_stream.specs.Said.{row_says}
-use Rattle.par_stream.specs.Stops.{IsRefusedRow, Restates, SaysMissing, Tells}
+use Rattle.par_stream.specs.Stops.{IsRefusedRow, Restates, SaysOfHeader, SaysOfRow, Tells}
 use Rattle.par_stream.specs.declared.stop.Stop.{Stop}
 use Rattle.par_stream.specs.declared.stop.Stop.TheVariants as stop
-use Rattle.par_stream.proofs.Found.{row_there}
+use Rattle.par_stream.proofs.Found.{row_there, some_lines}
+use Rattle.par_stream.proofs.Places.{row_place}
 
-pub begins : (from left : Option (List ℕ)) (records : Table) (rest : List ℕ) (is_last : Bool) → Reaches from left records rest is_last → Begins from records
-begins None left records rest is_last r = tt
-begins (Some bytes) left records rest true r = ([], r.all refl ∙ sym (append-nil records))
-begins (Some bytes) None records rest false r = absurd (r.more refl)
-begins (Some bytes) (Some left) records rest false r = (records_of (rest ++ left), (r.more refl).parts)
+pub begins : (from left : Option (List ℕ)) (records : Table) (feeds : ℕ) (rest : List ℕ) (is_last : Bool) → Reaches from left records feeds rest is_last → Begins from records
+begins None left records feeds rest is_last r = tt
+begins (Some bytes) left records feeds rest true r = ([], r.all refl ∙ sym (append-nil records))
+begins (Some bytes) None records feeds rest false r = absurd (r.more refl)
+begins (Some bytes) (Some left) records feeds rest false r = (records_of (rest ++ left), (r.more refl).parts)
 
 take_front : (ws more : Table) (k : ℕ) → k ≤ length ws → take k (ws ++ more) ≡ take k ws
 take_front [] more zero h = refl
@@ -61,12 +63,19 @@ module _ (query : Query) where
   lacks (Some bytes) (header ∷ rows) name b some m =
       (ap (outcome query.plan) b.1 ∙ ap (by_missing query.plan header (rows ++ b.0)) m, ap (λ (l : Table). record_at l 0) b.1)
 
-  -- a column that the header lacks
+  here_twice : (from : Option (List ℕ)) (records : Table) → Begins from records → 0 < length records → IfSome from (λ bytes. record_at (records_of bytes) 0 ≡ record_at records 0)
+  here_twice None records b some = tt
+  here_twice (Some bytes) [] b some = absurd (omega (arith, some))
+  here_twice (Some bytes) (header ∷ rows) b some = ap (λ (l : Table). record_at l 0) b.1
+
+  -- a column that the header lacks, or has twice
   pub missing_tells : (from : Option (List ℕ)) (records : Table) (why : Stop) → Begins from records → 0 < length records
-      → (why ≡ stop.Memory) ⊎ ((said : _) × (why ≡ stop.NoColumn said) × SaysMissing query.plan (record_at records 0) (string_bytes said)) → Tells query from why
+      → SaysOfHeader query.plan (record_at records 0) why → Tells query from why
   missing_tells from records why b some (inl e) = subst (Tells query from) (sym e) tt
-  missing_tells from records why b some (inr m) =
+  missing_tells from records why b some (inr (inl m)) =
       subst (Tells query from) (sym m.1) (record { name = m.2.name; header = record_at records 0; says = m.2.says; lacks = lacks from records m.2.name b some m.2.lacks })
+  missing_tells from records why b some (inr (inr m)) =
+      subst (Tells query from) (sym m.1) (record { header = record_at records 0; says = m.2; whole = m.3; is = here_twice from records b some })
 
 module _ (query : Query) (header : List (List ℕ)) (bound : Plan) (is : IsBound query header bound) where
   pub outcome_rows : (rows : Table) → outcome query.plan (header ∷ rows) ≡ by_refused (refused_in bound (header ∷ rows))
@@ -102,12 +111,24 @@ module _ (query : Query) (header : List (List ℕ)) (bound : Plan) (is : IsBound
         let found = refused_first bound all n why (omega (arith, place, low)) accepted (subst (λ m. refusal bound (length header) (record_at all m) ≡ Some why) (sym place) is_refused) in
         (found.0, subst (λ m. refused_in bound all ≡ (m, why) ∷ found.0) place found.1)
 
-  -- an answer on a window tells of the outcome
-  pub refused_tells : (from : Option (List ℕ)) (before : ℕ) (rows : Table) (pieces : List Stretch) (why : BlockAnswer) (said : Stop) → before ≡ length rows → before ≤ 2 ^ 50 → IsLow why
-      → Begins from (header ∷ (rows ++ rows_of pieces)) → All (IsAccepted bound (length header)) rows → AreUnder header pieces → IsFirstCause bound (header ∷ rows_of pieces) why
-      → Restates query.plan bound pieces before why said → Tells query from said
-  refused_tells from before rows pieces answer.Memory said is_before few low b accepted under c restated = subst (Tells query from) (sym restated) tt
-  refused_tells from before rows pieces (answer.Row row cause item) said is_before few low b accepted under c restated = by (restated (omega (arith, few, low)))
+  -- a row of some windows is in its place, if they are a part of what was read
+  place_told : (from left : Option (List ℕ)) (rows : Table) (feeds : ℕ) (pieces : List Stretch) (rest : List ℕ) (row number line : ℕ) (why : Refusal) (said : List ℕ) → number ≡ length rows + row → All IsLined pieces
+      → (0 < length (lines_of pieces) → HasPart from left (header ∷ rows) feeds pieces rest) → (r : SaysOfRow query.plan bound pieces row feeds why line said) → IfSome from (λ bytes. PlacesRow bytes number line (string_bytes r.place.quote))
+  place_told None left rows feeds pieces rest row number line why said number_is lined part r = tt
+  place_told (Some bytes) left rows feeds pieces rest row number line why said number_is lined part r = by left (part (some_lines pieces r.piece r.is.at r.within r.is.begins.within))
+    where
+      by : (left : Option (List ℕ)) → HasPart (Some bytes) left (header ∷ rows) feeds pieces rest → PlacesRow bytes number line (string_bytes r.place.quote)
+      by None part = absurd part
+      by (Some left) part =
+          let here = row_place bytes (header ∷ rows) feeds pieces (rest ++ left) part lined r.piece r.within row r.at number r.place r.some r.high r.number (omega (arith, number_is)) r.is in
+          subst (λ (n : ℕ). PlacesRow bytes number n (string_bytes r.place.quote)) (sym r.line) here
+
+  -- an answer on some windows tells of the outcome
+  pub refused_tells : (from left : Option (List ℕ)) (before : ℕ) (rows : Table) (feeds : ℕ) (pieces : List Stretch) (rest : List ℕ) (why : BlockAnswer) (said : Stop) → before ≡ length rows → before ≤ 2 ^ 50 → IsLow why
+      → Begins from (header ∷ (rows ++ rows_of pieces)) → (0 < length (lines_of pieces) → HasPart from left (header ∷ rows) feeds pieces rest) → All IsLined pieces → All (IsAccepted bound (length header)) rows → AreUnder header pieces
+      → IsFirstCause bound (header ∷ rows_of pieces) why → Restates query.plan bound pieces before feeds why said → Tells query from said
+  refused_tells from left before rows feeds pieces rest answer.Memory said is_before few low b part lined accepted under c restated = subst (Tells query from) (sym restated) tt
+  refused_tells from left before rows feeds pieces rest (answer.Row row cause item) said is_before few low b part lined accepted under c restated = by (restated (omega (arith, few, low)))
     where
       wrows : Table
       wrows = rows_of pieces
@@ -137,11 +158,23 @@ module _ (query : Query) (header : List (List ℕ)) (bound : Plan) (is : IsBound
           subst (λ n. record_at (header ∷ ((rows ++ wrows) ++ b.0)) n ≡ fields) number (row_there header rows wrows b.0 row c.refused.first c.refused.within) in
           (ap (λ (l : Table). record_at l 0) b.1, ap (λ (l : Table). record_at l (before + row)) b.1 ∙ there)
 
-      by : IsRefusedRow query.plan bound pieces (before + row) row why said ⊎ (said ≡ stop.Memory) → Tells query from said
+      by : IsRefusedRow query.plan bound pieces (before + row) row feeds why said ⊎ (said ≡ stop.Memory) → Tells query from said
       by (inr e) = subst (Tells query from) (sym e) tt
       by (inl r) =
-          let says : string_bytes r.0 ≡ row_says query.plan (bound_plan header query.plan) header fields why = r.2 header under ∙ ap (λ (p : Plan). row_says query.plan p header fields why) is.is in
-          subst (Tells query from) (sym r.1) (record { refusal = why; header = header; fields = fields; says = says; first = first_told from b; are = are_told from b })
+          let says = r.3 in
+          let quote = string_bytes says.place.quote in
+          let text : string_bytes r.1 ≡ row_says query.plan (bound_plan header query.plan) header fields why ++ quote =
+          says.says header under ∙ ap (λ (p : Plan). row_says query.plan p header fields why ++ quote) is.is in
+          subst (Tells query from) (sym r.2) (record {
+            refusal = why;
+            header = header;
+            fields = fields;
+            quote = quote;
+            says = text;
+            places = place_told from left rows feeds pieces rest row (before + row) r.0 why (string_bytes r.1) (sym number) lined part says;
+            first = first_told from b;
+            are = are_told from b;
+          })
 
   -- the columns of the plan are in each window that has the header
   pub have_columns : (pieces : List Stretch) → AreUnder header pieces → HaveColumns bound pieces

@@ -1,5 +1,5 @@
 -- What was read of a source, window by window.
-use Rattle.std.specs.Prelude.{◌≡◌, ◌≤◌, ◌+◌, ◌++◌, ◌^◌, [], ◌∷◌, ℕ, Bool, List, None, Option, Some, All, IfSome, false, length, map, true, ⊤}
+use Rattle.std.specs.Prelude.{◌≡◌, ◌<◌, ◌≤◌, ◌+◌, ◌++◌, ◌^◌, ◌⊎◌, [], ◌∷◌, ℕ, Bool, List, None, Option, Some, All, IfSome, false, length, map, true, ⊤}
 use Rattle.std.specs.Io.KnownBytes.{IsAtEnd}
 use Rattle.csv_rows.specs.Cuts.{IsCut}
 use Rattle.csv_rows.specs.Records.{record_at, records_of}
@@ -16,25 +16,34 @@ use Rattle.row_windows.specs.declared.window.WindowAnswer.TheVariants as answer
 use Rattle.gather_law.specs.Shares.{together}
 use Rattle.split_run.specs.Pieces.{AreUnder, piece_records, piece_rows, rows_of}
 use Rattle.par_stream.specs.Gathering.{HasGathered, participants_of}
+use Rattle.text_lines.specs.Feeds.{count_feeds}
+use Rattle.par_stream.specs.Begins.{AllCut, AreCut, IsLined, feeds_of, lines_of}
+use Rattle.par_stream.specs.Twice.{twice_of}
 use Rattle.par_stream.specs.declared.batch.Batch.{Batch}
+use Rattle.par_stream.specs.declared.filling.First.{First}
 use Rattle.par_stream.specs.declared.adding.Added.{Added}
 use Rattle.par_stream.specs.declared.reading.ReadGroups.{ReadGroups}
 use Rattle.par_stream.specs.declared.reading.Stream.{Stream}
 
 -- ---- the source
 
--- Of a source that had some bytes left and now has others: some records, and those of the rest that was read and of what
--- is left, are the records of all bytes; and the rest stands in front of what is left
-pub record AreRead (bytes left : List ℕ) (records : Table) (rest : List ℕ) : Type 0 where
+-- Of a source that had some bytes left and now has others: they are a front, a rest that was read, and what is left. The
+-- front has some records and so many line feeds, and ends outside quotes; the records of all bytes are these, and those of
+-- the rest and of what is left. If there is a front, the rest begins with the end of a line
+pub record AreRead (bytes left : List ℕ) (records : Table) (feeds : ℕ) (rest : List ℕ) : Type 0 where
   pub front : List ℕ
   pub are : bytes ≡ front ++ (rest ++ left)
+  pub is : records_of front ≡ records
   pub parts : records_of bytes ≡ records ++ records_of (rest ++ left)
+  pub feeds : count_feeds front ≡ feeds
+  pub whole : IsCut front
+  pub begins : (front ≡ []) ⊎ BeginsLine rest
 
 -- likewise where the source tells
-abbrev pub HasRead : Option (List ℕ) → Option (List ℕ) → Table → List ℕ → Type 0
-HasRead None left records rest = ⊤
-HasRead (Some bytes) None records rest = ⊥
-HasRead (Some bytes) (Some left) records rest = AreRead bytes left records rest
+abbrev pub HasRead : Option (List ℕ) → Option (List ℕ) → Table → ℕ → List ℕ → Type 0
+HasRead None left records feeds rest = ⊤
+HasRead (Some bytes) None records feeds rest = ⊥
+HasRead (Some bytes) (Some left) records feeds rest = AreRead bytes left records feeds rest
 
 -- some records are those of all bytes that a source had left, where it tells
 abbrev pub HasAll : Option (List ℕ) → Table → Type 0
@@ -44,10 +53,28 @@ HasAll from records = IfSome from (λ bytes. records_of bytes ≡ records)
 abbrev pub Begins : Option (List ℕ) → Table → Type 0
 Begins from records = IfSome from (λ bytes. (more : Table) × (records_of bytes ≡ records ++ more))
 
+-- The lines of some windows are a part of bytes: before them come some records and so many line feeds, which end outside
+-- quotes, and after them other bytes. If there are such bytes, they begin with the end of a line, and the lines of each window
+-- end outside quotes
+pub record ArePart (bytes : List ℕ) (records : Table) (feeds : ℕ) (pieces : List Stretch) (back : List ℕ) : Type 0 where
+  pub front : List ℕ
+  pub are : bytes ≡ front ++ (lines_of pieces ++ back)
+  pub is : records_of front ≡ records
+  pub feeds : count_feeds front ≡ feeds
+  pub whole : IsCut front
+  pub cuts : AreCut pieces
+  pub next : (back ≡ []) ⊎ (BeginsLine back × AllCut pieces)
+
+-- likewise of a source that had some bytes left and now has others, after a rest that was read, if it tells
+abbrev pub HasPart : Option (List ℕ) → Option (List ℕ) → Table → ℕ → List Stretch → List ℕ → Type 0
+HasPart None left records feeds pieces rest = ⊤
+HasPart (Some bytes) None records feeds pieces rest = ⊥
+HasPart (Some bytes) (Some left) records feeds pieces rest = ArePart bytes records feeds pieces (rest ++ left)
+
 -- what there is of a source after a window that is the last, or not
-pub record Reaches (from left : Option (List ℕ)) (records : Table) (rest : List ℕ) (is_last : Bool) : Type 0 where
+pub record Reaches (from left : Option (List ℕ)) (records : Table) (feeds : ℕ) (rest : List ℕ) (is_last : Bool) : Type 0 where
   pub all : is_last ≡ true → HasAll from records
-  pub more : is_last ≡ false → HasRead from left records rest
+  pub more : is_last ≡ false → HasRead from left records feeds rest
 
 -- ---- a window
 
@@ -59,11 +86,12 @@ pub record IsFilled (old new : Option (List ℕ)) (was now : Stretch) (is_last :
   pub seam : is_last ≡ false → IsSeam now.lines now.rest
   pub line : BeginsLine was.rest → BeginsLine now.lines
 
--- why it was not filled: a read failed, or what there was and what was read begins with a record that is too long
-abbrev pub IsNotFilled : Option (List ℕ) → Option (List ℕ) → ℕ → ℕ → Stretch → WindowAnswer → Type 0
-IsNotFilled old new old_faults new_faults was answer.ReadFault = Rose old_faults new_faults
-IsNotFilled old new old_faults new_faults was answer.LongRecord = (text : List ℕ) × Fills old new was.rest text × IsLong text
-IsNotFilled old new old_faults new_faults was answer.Memory = ⊤
+-- why it was not filled: a read failed, or what there was and what was read, which is its rest now, begins with a record
+-- that is too long
+abbrev pub IsNotFilled : Option (List ℕ) → Option (List ℕ) → ℕ → ℕ → Stretch → Stretch → WindowAnswer → Type 0
+IsNotFilled old new old_faults new_faults was now answer.ReadFault = Rose old_faults new_faults
+IsNotFilled old new old_faults new_faults was now answer.LongRecord = IsLongWindow old new was now
+IsNotFilled old new old_faults new_faults was now answer.Memory = ⊤
 
 -- a window begins with the line of a header, which has one record, and is cut off in front of the end of a line
 pub record HasHeader (header : Table) (w : Stretch) (is_last : Bool) : Type 0 where
@@ -72,6 +100,14 @@ pub record HasHeader (header : Table) (w : Stretch) (is_last : Bool) : Type 0 wh
   pub records : piece_records w ≡ record_at header 0 ∷ piece_rows w
   pub cut : is_last ≡ false → IsCut w.header
   pub next : is_last ≡ false → BeginsLine w.rest
+
+-- this is that window with its record, which is the last or not, after so many line feeds and those of the header's line
+pub record IsFirst (window : Stretch) (header : Table) (is_last : Bool) (feeds : ℕ) (f : First) : Type 0 where
+  pub window : f.window ≡ window
+  pub header : f.header ≡ header
+  pub last : f.is_last ≡ is_last
+  pub feeds : f.feeds ≡ feeds + count_feeds window.header
+  pub few : f.feeds ≤ 2 ^ 60
 
 -- ---- a batch
 
@@ -87,21 +123,31 @@ pub record AddsPiece (old new : Option (List ℕ)) (was now : Batch) (is_last : 
   pub header : now.next.header ≡ piece.header
   pub lines : now.next.lines ≡ []
   pub rest : now.next.rest ≡ piece.rest
+  pub before : now.before ≡ was.before
+  pub feeds : now.feeds ≡ was.feeds + count_feeds piece.lines
+  pub few : now.feeds ≤ 2 ^ 60
 
 -- no window more, since what comes next is too long: it was read into the rest
 pub record MeetsLong (old new : Option (List ℕ)) (was now : Batch) : Type 0 where
   pub pieces : now.pieces ≡ was.pieces
   pub next : IsLongWindow old new was.next now.next
+  pub before : now.before ≡ was.before
+  pub feeds : now.feeds ≡ was.feeds
 
--- A batch was filled from a source, from a window on that has the rest of what was read: its windows have that one's
--- header, and the records of their lines come next
-pub record IsFilledBatch (old new : Option (List ℕ)) (was : Stretch) (b : Batch) (is_last : Bool) : Type 0 where
+-- A batch was filled from a source, from a window on that has the rest of what was read, after so many line feeds: its
+-- windows have that one's header, and the records and line feeds of their lines come next
+pub record IsFilledBatch (old new : Option (List ℕ)) (was : Stretch) (feeds : ℕ) (b : Batch) (is_last : Bool) : Type 0 where
+  pub before : b.before ≡ feeds
+  pub counted : b.feeds ≡ feeds + feeds_of b.pieces.items
+  pub few_feeds : b.feeds ≤ 2 ^ 60
   pub few : length b.pieces.items ≤ 64
   pub header : b.next.header ≡ was.header
   pub lines : b.next.lines ≡ []
   pub headers : All (λ w. w.header ≡ was.header) b.pieces.items
   pub begins : BeginsLine was.rest → All (λ w. BeginsLine w.lines) b.pieces.items
-  pub reads : (from : Option (List ℕ)) (records : Table) → HasRead from old records was.rest → Reaches from new (records ++ line_records b.pieces.items) b.next.rest is_last
+  pub cut : is_last ≡ false → AllCut b.pieces.items
+  pub reads : (from : Option (List ℕ)) (records : Table) → HasRead from old records feeds was.rest → Reaches from new (records ++ line_records b.pieces.items) b.feeds b.next.rest is_last
+  pub part : (from : Option (List ℕ)) (records : Table) → BeginsLine was.rest → HasRead from old records feeds was.rest → HasPart from new records feeds b.pieces.items b.next.rest
   pub line : BeginsLine was.rest → is_last ≡ false → BeginsLine b.next.rest
 
 -- the windows of a batch begin with the line of a header, which has one record and is cut off before the end of a line
@@ -110,16 +156,20 @@ pub record IsHeaded (header : Table) (b : Batch) (is_last : Bool) : Type 0 where
   pub one : length header ≡ 1
   pub line : records_of b.next.header ≡ header
   pub pieces : AreUnder (record_at header 0) b.pieces.items
+  pub lines : All IsLined b.pieces.items
+  pub counted : b.feeds ≡ b.before + feeds_of b.pieces.items
+  pub few_feeds : b.feeds ≤ 2 ^ 60
   pub cut : is_last ≡ false → IsCut b.next.header
   pub next : is_last ≡ false → BeginsLine b.next.rest
 
 -- ---- the rows
 
--- a plan is that of a query over the columns of a header, which has all of them
+-- a plan is that of a query over the columns of a header, which has all of them, and each once
 pub record IsBound (query : Query) (header : List (List ℕ)) (plan : Plan) : Type 0 where
   pub is : plan ≡ bound_plan header query.plan
   pub columns : HasColumns plan (length header)
   pub whole : missing_name header query.plan ≡ None
+  pub once : twice_of plan header ≡ None
 
 -- what was added is these rows, none of which is refused
 pub record HasAdded (plan : Plan) (width : ℕ) (rows : Table) (a : Added) : Type 0 where
@@ -139,10 +189,12 @@ pub record IsStream (query : Query) (plan : Plan) (s : Stream) : Type 0 where
   pub many : participants_of s.added.gathered ≡ query.workers + 1
   pub few : s.added.count ≤ 2 ^ 50
 
--- it has added these rows, which were read of a source after the header; those of its batch come next
+-- It has added these rows, which were read of a source after the header; those of its batch come next, and if there are
+-- lines, they are a part of what was read
 pub record HasRows (plan : Plan) (from left : Option (List ℕ)) (s : Stream) (rows : Table) : Type 0 where
   pub added : HasAdded plan (length (record_at s.header 0)) rows s.added
-  pub reaches : Reaches from left (record_at s.header 0 ∷ (rows ++ rows_of s.batch.pieces.items)) s.batch.next.rest s.is_last
+  pub reaches : Reaches from left (record_at s.header 0 ∷ (rows ++ rows_of s.batch.pieces.items)) s.batch.feeds s.batch.next.rest s.is_last
+  pub part : 0 < length (lines_of s.batch.pieces.items) → HasPart from left (record_at s.header 0 ∷ rows) s.batch.before s.batch.pieces.items s.batch.next.rest
 
 -- what was gathered is all rows of a source, of which none is refused
 pub record AreGroupsOver (query : Query) (from : Option (List ℕ)) (r : ReadGroups) : Type 0 where

@@ -1,5 +1,5 @@
 -- What a reason to have no table says of the outcome.
-use Rattle.std.specs.Prelude.{◌∷◌, ◌≡◌, ◌<◌, ◌+◌, ◌^◌, ◌⊎◌, ◌++◌, ⊤, ℕ, List, None, Option, Some, String, IfSome, codes, length, decimal, string_bytes}
+use Rattle.std.specs.Prelude.{◌∷◌, ◌≡◌, ◌<◌, ◌≤◌, ◌==◌, ◌+◌, ◌-◌, ◌^◌, ◌⊎◌, ◌++◌, ⊤, ℕ, List, None, Option, Some, String, IfSome, codes, length, decimal, string_bytes, take}
 use Rattle.std.specs.Global.{Global}
 use Rattle.csv_rows.specs.Records.{record_at, records_of}
 use Rattle.par_model.specs.Named.{NamedPlan, bound_plan, missing_name}
@@ -18,9 +18,12 @@ use Rattle.row_windows.specs.declared.window.WindowAnswer.{WindowAnswer}
 use Rattle.row_windows.specs.declared.window.WindowAnswer.TheVariants as window
 use Rattle.shown_text.specs.Header.{missing_text}
 use Rattle.par_stream.specs.Said.{row_says}
-use Rattle.par_stream.specs.Outcome.{HasLong, outcome_over}
-use Rattle.split_run.specs.Pieces.{AreUnder, rows_of}
-use Rattle.par_stream.specs.Reading.{Begins, HasAdded, IsBound}
+use Rattle.par_stream.specs.Begins.{IsPlaceIn, IsPlaceOfLong, PlacesLong, PlacesRow, feeds_of, lines_of, piece_at}
+use Rattle.par_stream.specs.Twice.{SaysTwice}
+use Rattle.par_stream.specs.declared.place.Place.{Place}
+use Rattle.par_stream.specs.Outcome.{outcome_over}
+use Rattle.split_run.specs.Pieces.{AreUnder, piece_rows, rows_of}
+use Rattle.par_stream.specs.Reading.{Begins, HasAdded, HasPart, IsBound}
 use Rattle.par_stream.specs.declared.batch.Batch.{Batch}
 use Rattle.par_stream.specs.declared.adding.Added.{Added}
 use Rattle.par_stream.specs.declared.stop.TheConstants.{LONG_RECORD}
@@ -31,9 +34,17 @@ use Rattle.par_stream.specs.declared.stop.Stop.TheVariants as stop
 abbrev pub usage_text : List ℕ
 usage_text = codes "usage: parstream [--group COLUMNS] --agg ITEMS [--where FILTER].. [--decimals PLACES] [--workers N]"
 
--- the number of a row, before what is said of it
-abbrev pub row_front : ℕ → List ℕ
-row_front row = codes "row " ++ (decimal row ++ codes ": ")
+-- the number of a row and its line, as digits, before what is said of it
+abbrev pub row_front_of : List ℕ → List ℕ → List ℕ
+row_front_of row line = codes "row " ++ (row ++ (codes " (line " ++ (line ++ codes "): ")))
+
+-- the same by the two numbers
+abbrev pub row_front : ℕ → ℕ → List ℕ
+row_front row line = row_front_of (decimal row) (decimal line)
+
+-- what is said of a record that is too long, before what is said of a quote in it
+abbrev pub long_text : List ℕ
+long_text = codes "longer than 67108864 bytes"
 
 -- the status of a reason, and what its line says
 abbrev pub stop_says : Stop → ℕ × List ℕ
@@ -41,8 +52,9 @@ stop_says stop.Usage = (MISUSED, usage_text)
 stop_says stop.ReadFault = (READ_FAULT, codes "read fault")
 stop_says stop.NoHeader = (MISUSED, codes "no header")
 stop_says (stop.NoColumn said) = (MISUSED, string_bytes said)
-stop_says (stop.LongRecord row) = (LONG_RECORD, row_front row ++ codes "longer than 67108864 bytes")
-stop_says (stop.Refused row said) = (REFUSED, row_front row ++ string_bytes said)
+stop_says (stop.TwiceColumn said) = (MISUSED, string_bytes said)
+stop_says (stop.LongRecord row line said) = (LONG_RECORD, row_front row line ++ string_bytes said)
+stop_says (stop.Refused row line said) = (REFUSED, row_front row line ++ string_bytes said)
 stop_says stop.WriteFault = (WRITE_FAULT, codes "write fault")
 stop_says stop.Memory = (NO_MEMORY, codes "out of memory")
 
@@ -54,13 +66,30 @@ pub record NamesColumn (query : Query) (left : Option (List ℕ)) (said : List �
   pub says : said ≡ missing_text name header
   pub lacks : IfSome left (λ bytes. (outcome_over query.plan bytes ≡ NoColumn name) × (record_at (records_of bytes) 0 ≡ header))
 
--- A row that is named, with what is said of it: that is the text for its refusal, with its fields and a header, and if a
--- source tells what it had left, the outcome of the query refuses this row for it, first of all, and these are the records
-pub record NamesFirstRow (query : Query) (left : Option (List ℕ)) (row : ℕ) (said : List ℕ) : Type 0 where
+-- What is said of a column that the header has twice: it is the text for it, and if a source tells what it had left, the
+-- header is the first record, and has all names of the query
+pub record NamesTwice (query : Query) (left : Option (List ℕ)) (said : List ℕ) : Type 0 where
+  pub header : List (List ℕ)
+  pub says : SaysTwice (bound_plan header query.plan) header said
+  pub whole : missing_name header query.plan ≡ None
+  pub is : IfSome left (λ bytes. record_at (records_of bytes) 0 ≡ header)
+
+-- A record that is too long, with its line and what is said of it: if a source tells what it had left, it is there
+pub record NamesLong (query : Query) (left : Option (List ℕ)) (row line : ℕ) (said : List ℕ) : Type 0 where
+  pub quote : List ℕ
+  pub says : said ≡ long_text ++ quote
+  pub places : IfSome left (λ bytes. PlacesLong query.plan bytes row line quote)
+
+-- A row that is named, with its line and what is said of it: that is the text for its refusal, with its fields and a header,
+-- and for a quote in it that is not closed, and if a source tells what it had left, the outcome of the query refuses this
+-- row for it, first of all, these are the records, and it begins in this line
+pub record NamesFirstRow (query : Query) (left : Option (List ℕ)) (row line : ℕ) (said : List ℕ) : Type 0 where
   pub refusal : Refusal
   pub header : List (List ℕ)
   pub fields : List (List ℕ)
-  pub says : said ≡ row_says query.plan (bound_plan header query.plan) header fields refusal
+  pub quote : List ℕ
+  pub says : said ≡ row_says query.plan (bound_plan header query.plan) header fields refusal ++ quote
+  pub places : IfSome left (λ bytes. PlacesRow bytes row line quote)
   pub first : IfSome left (λ bytes. (others : List (ℕ × Refusal)) × (outcome_over query.plan bytes ≡ Refused ((row, refusal) ∷ others)))
   pub are : IfSome left (λ bytes. (record_at (records_of bytes) 0 ≡ header) × (record_at (records_of bytes) row ≡ fields))
 
@@ -70,27 +99,39 @@ Tells query left stop.Usage = ⊥
 Tells query left stop.ReadFault = ⊤
 Tells query left stop.NoHeader = IfSome left (λ bytes. outcome_over query.plan bytes ≡ NoHeader)
 Tells query left (stop.NoColumn said) = NamesColumn query left (string_bytes said)
-Tells query left (stop.LongRecord row) = IfSome left (λ bytes. HasLong query.plan bytes row)
-Tells query left (stop.Refused row said) = NamesFirstRow query left row (string_bytes said)
+Tells query left (stop.TwiceColumn said) = NamesTwice query left (string_bytes said)
+Tells query left (stop.LongRecord row line said) = NamesLong query left row line (string_bytes said)
+Tells query left (stop.Refused row line said) = NamesFirstRow query left row line (string_bytes said)
 Tells query left stop.WriteFault = IfSome left (λ bytes. outcome_over query.plan bytes ≡ Table)
 Tells query left stop.Memory = ⊤
 
 -- Why the rows of a batch were not added to some others, which come before them: it is so said of each source
 -- whose records begin with the header and all these rows
 abbrev pub TellsOfRows : Query → Plan → Batch → Added → Stop → Type 0
-TellsOfRows query plan b added why = (from : Option (List ℕ)) (header : List (List ℕ)) (rows : Records) → IsBound query header plan → AreUnder header b.pieces.items → HasAdded plan (length header) rows added
-    → Begins from (header ∷ (rows ++ rows_of b.pieces.items)) → Tells query from why
+TellsOfRows query plan b added why = (from left : Option (List ℕ)) (header : List (List ℕ)) (rows : Records) → IsBound query header plan → AreUnder header b.pieces.items → HasAdded plan (length header) rows added
+    → Begins from (header ∷ (rows ++ rows_of b.pieces.items)) → (0 < length (lines_of b.pieces.items) → HasPart from left (header ∷ rows) b.before b.pieces.items b.next.rest) → Tells query from why
 
 -- what a reason says of what words ask for, a query or nothing
 abbrev pub TellsOf : Option Query → Option (List ℕ) → Stop → Type 0
 TellsOf None left why = (why ≡ stop.Usage) ⊎ (why ≡ stop.Memory)
 TellsOf (Some query) left why = Tells query left why
 
--- the reason that stands for a window that was not filled, in front of which there are so many records
-abbrev pub stop_of_window : WindowAnswer → ℕ → Stop
-stop_of_window window.ReadFault row = stop.ReadFault
-stop_of_window window.LongRecord row = stop.LongRecord row
-stop_of_window window.Memory row = stop.Memory
+-- what is said of a record that is too long, of which this text was read, after so many line feeds
+pub record SaysOfLong (feeds : ℕ) (text : List ℕ) (line : ℕ) (said : List ℕ) : Type 0 where
+  pub place : Place
+  pub is : IsPlaceOfLong text feeds place
+  pub line : line ≡ place.line
+  pub says : said ≡ long_text ++ string_bytes place.quote
+
+-- the reason is that the record of this number is too long
+abbrev pub IsStopOfLong : ℕ → ℕ → List ℕ → Stop → Type 0
+IsStopOfLong row feeds text why = (line : ℕ) × (said : String Global) × (why ≡ stop.LongRecord row line said) × SaysOfLong feeds text line (string_bytes said)
+
+-- the reason for a window that was not filled, before which there are so many records and line feeds, or out of memory
+abbrev pub IsStopOfWindow : WindowAnswer → ℕ → ℕ → List ℕ → Stop → Type 0
+IsStopOfWindow window.ReadFault row feeds text why = why ≡ stop.ReadFault
+IsStopOfWindow window.LongRecord row feeds text why = IsStopOfLong row feeds text why ⊎ (why ≡ stop.Memory)
+IsStopOfWindow window.Memory row feeds text why = why ≡ stop.Memory
 
 -- the reason that stands for an answer of `of_words`
 abbrev pub stop_of_words : PlanAnswer → Stop
@@ -103,19 +144,35 @@ pub record SaysMissing (plan : NamedPlan) (header : List (List ℕ)) (said : Lis
   pub lacks : missing_name header plan ≡ Some name
   pub says : said ≡ missing_text name header
 
+-- a reason says of a header that it has not the columns of a plan, each once, or is out of memory
+abbrev pub SaysOfHeader : NamedPlan → List (List ℕ) → Stop → Type 0
+SaysOfHeader plan header why = (why ≡ stop.Memory) ⊎ (((said : String Global) × (why ≡ stop.NoColumn said) × SaysMissing plan header (string_bytes said))
+    ⊎ ((said : String Global) × (why ≡ stop.TwiceColumn said) × SaysTwice (bound_plan header plan) header (string_bytes said) × (missing_name header plan ≡ None)))
+
 -- a table has a header, and at a place the record of this number of some records, of which the first is that header
 abbrev pub IsRow : Records → ℕ → Records → ℕ → Type 0
 IsRow records number table at = (record_at table 0 ≡ record_at records 0) × (record_at table at ≡ record_at records number)
 
--- a text says of a row of some pieces that it is refused
-abbrev pub SaysOfRow : NamedPlan → Plan → List Stretch → ℕ → Refusal → List ℕ → Type 0
-SaysOfRow plan bound pieces row why said = (header : List (List ℕ)) → AreUnder header pieces → said ≡ row_says plan bound header (record_at (header ∷ rows_of pieces) row) why
+-- A text says of a row of some pieces that it is refused, and in which line it begins; so many line feeds come before their
+-- lines. The row is one of a piece, and has the place there that its number among that one's rows says
+pub record SaysOfRow (plan : NamedPlan) (bound : Plan) (pieces : List Stretch) (row feeds : ℕ) (why : Refusal) (line : ℕ) (said : List ℕ) : Type 0 where
+  pub piece : ℕ
+  pub at : ℕ
+  pub place : Place
+  pub within : piece < length pieces
+  pub some : 1 ≤ at
+  pub high : at ≤ length (piece_rows (piece_at pieces piece))
+  pub number : length (rows_of (take piece pieces)) + at ≡ row
+  pub is : IsPlaceIn (piece_at pieces piece).lines (at - 1) (at == length (piece_rows (piece_at pieces piece))) (feeds + feeds_of (take piece pieces)) place
+  pub line : line ≡ place.line
+  pub says : (header : List (List ℕ)) → AreUnder header pieces → said ≡ row_says plan bound header (record_at (header ∷ rows_of pieces) row) why ++ string_bytes place.quote
 
 -- the reason is that the row of this number is refused, which is this row of some pieces, and it has the text for it
-abbrev pub IsRefusedRow : NamedPlan → Plan → List Stretch → ℕ → ℕ → Refusal → Stop → Type 0
-IsRefusedRow plan bound pieces number row refusal why = (said : String Global) × (why ≡ stop.Refused number said) × SaysOfRow plan bound pieces row refusal (string_bytes said)
+abbrev pub IsRefusedRow : NamedPlan → Plan → List Stretch → ℕ → ℕ → ℕ → Refusal → Stop → Type 0
+IsRefusedRow plan bound pieces number row feeds refusal why = (line : ℕ) × (said : String Global) × (why ≡ stop.Refused number line said) × SaysOfRow plan bound pieces row feeds refusal line (string_bytes said)
 
--- the reason says of an answer on the rows of some pieces, after so many others, what the answer says, or is want of memory
-abbrev pub Restates : NamedPlan → Plan → List Stretch → ℕ → BlockAnswer → Stop → Type 0
-Restates plan bound pieces before (answer.Row row cause item) why = before + row < 2 ^ 64 → IsRefusedRow plan bound pieces (before + row) row (record { cause = cause; item = item }) why ⊎ (why ≡ stop.Memory)
-Restates plan bound pieces before answer.Memory why = why ≡ stop.Memory
+-- the reason says of an answer on the rows of some pieces, after so many others and line feeds, what the answer says, or is
+-- out of memory
+abbrev pub Restates : NamedPlan → Plan → List Stretch → ℕ → ℕ → BlockAnswer → Stop → Type 0
+Restates plan bound pieces before feeds (answer.Row row cause item) why = before + row < 2 ^ 64 → IsRefusedRow plan bound pieces (before + row) row feeds (record { cause = cause; item = item }) why ⊎ (why ≡ stop.Memory)
+Restates plan bound pieces before feeds answer.Memory why = why ≡ stop.Memory

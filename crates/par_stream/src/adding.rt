@@ -1,7 +1,9 @@
 //! The rows of a batch among the participants, and the filling of the next one at the same time.
 
-ghost use Rattle.std.specs.Prelude.{◌≡◌, ◌<◌, ◌≤◌, ◌+◌, ◌^◌, ◌⊎◌, [], IfErr, IfOk, OnOk, length};
+ghost use Rattle.std.specs.Prelude.{◌≡◌, ◌<◌, ◌≤◌, ◌+◌, ◌^◌, ◌⊎◌, [], All, Err, IfErr, IfOk, OnOk, length};
 ghost use Rattle.split_run.specs.Pieces.{HaveColumns};
+ghost use Rattle.row_windows.specs.declared.window.WindowAnswer.TheVariants as answer;
+ghost use Rattle.par_stream.specs.Begins.{IsLined, feeds_of};
 ghost use Rattle.par_stream.specs.Gathering.{participants_of};
 ghost use Rattle.par_stream.specs.Reading.{AddsBatch, IsFilledBatch, IsNotFilled};
 ghost use Rattle.par_stream.specs.Stops.{TellsOfRows};
@@ -44,13 +46,19 @@ pub(crate) fn add_and_fill<R: Threads + Wait + Sync, S: Source>(
     size: usize,
 ) -> Result<Result<bool, WindowAnswer>, Stop>
     requires pieces { length batch.now.pieces.items ≤ 64 }
+    requires lines { All IsLined batch.now.pieces.items }
+    requires feeds { batch.now.before + feeds_of batch.now.pieces.items ≤ 2 ^ 60 }
     requires columns { HaveColumns bound.now batch.now.pieces.items }
     requires many { participants_of added.old.gathered ≡ plan.now.workers + 1 }
     requires few { added.old.count ≤ 2 ^ 50 }
-    requires lines { next.old.next.lines ≡ [] }
+    requires next { next.old.next.lines ≡ [] }
+    requires start { next.old.feeds ≡ next.old.before }
+    requires few_feeds { next.old.feeds ≤ 2 ^ 60 }
     ensures added { OnOk result (AddsBatch bound.now batch.now added.old added.new) }
-    ensures filled { IfOk result (λ filled. IfOk filled (IsFilledBatch (S.left source.old) (S.left source.new) next.old.next next.new)) }
-    ensures not_filled { IfOk result (λ filled. IfErr filled (IsNotFilled (S.left source.old) (S.left source.new) (S.faults source.old) (S.faults source.new) next.old.next)) }
+    ensures filled { IfOk result (λ filled. IfOk filled (IsFilledBatch (S.left source.old) (S.left source.new) next.old.next next.old.before next.new)) }
+    ensures feeds { IfOk result (λ filled. filled ≡ Err answer.LongRecord → next.new.feeds ≡ next.old.feeds) }
+    ensures few_feeds { OnOk result (next.new.feeds ≤ 2 ^ 60) }
+    ensures not_filled { IfOk result (λ filled. IfErr filled (IsNotFilled (S.left source.old) (S.left source.new) (S.faults source.old) (S.faults source.new) next.old.next next.new.next)) }
     ensures why { IfErr result (TellsOfRows plan.now bound.now batch.now added.old) }
     ensures kind { IfErr result (λ why. ((why ≡ stop.ReadFault) ⊎ (why ≡ stop.WriteFault)) → ⊥) }
     ensures faults { S.faults source.old ≤ S.faults source.new }
@@ -75,19 +83,27 @@ fn add_beside<R: Threads + Wait + Sync, S: Source>(
     size: usize,
 ) -> Result<Result<bool, WindowAnswer>, Stop>
     requires pieces { length batch.now.pieces.items ≤ 64 }
+    requires lines { All IsLined batch.now.pieces.items }
+    requires feeds { batch.now.before + feeds_of batch.now.pieces.items ≤ 2 ^ 60 }
     requires columns { HaveColumns bound.now batch.now.pieces.items }
     requires many { participants_of added.old.gathered ≡ plan.now.workers + 1 }
     requires few { added.old.count ≤ 2 ^ 50 }
-    requires lines { next.old.next.lines ≡ [] }
+    requires next { next.old.next.lines ≡ [] }
+    requires start { next.old.feeds ≡ next.old.before }
+    requires few_feeds { next.old.feeds ≤ 2 ^ 60 }
     ensures added { OnOk result (AddsBatch bound.now batch.now added.old added.new) }
-    ensures filled { IfOk result (λ filled. IfOk filled (IsFilledBatch (S.left source.old) (S.left source.new) next.old.next next.new)) }
-    ensures not_filled { IfOk result (λ filled. IfErr filled (IsNotFilled (S.left source.old) (S.left source.new) (S.faults source.old) (S.faults source.new) next.old.next)) }
+    ensures filled { IfOk result (λ filled. IfOk filled (IsFilledBatch (S.left source.old) (S.left source.new) next.old.next next.old.before next.new)) }
+    ensures feeds { IfOk result (λ filled. filled ≡ Err answer.LongRecord → next.new.feeds ≡ next.old.feeds) }
+    ensures few_feeds { OnOk result (next.new.feeds ≤ 2 ^ 60) }
+    ensures not_filled { IfOk result (λ filled. IfErr filled (IsNotFilled (S.left source.old) (S.left source.new) (S.faults source.old) (S.faults source.new) next.old.next next.new.next)) }
     ensures why { IfErr result (TellsOfRows plan.now bound.now batch.now added.old) }
     ensures kind { IfErr result (λ why. ((why ≡ stop.ReadFault) ⊎ (why ≡ stop.WriteFault)) → ⊥) }
     ensures faults { S.faults source.old ≤ S.faults source.new }
 {
     let mut add = || -> Result<(), Stop>
         requires pieces { length batch.now.pieces.items ≤ 64 }
+        requires lines { All IsLined batch.now.pieces.items }
+        requires feeds { batch.now.before + feeds_of batch.now.pieces.items ≤ 2 ^ 60 }
         requires columns { HaveColumns bound.now batch.now.pieces.items }
         requires many { participants_of added.now.gathered ≡ plan.now.workers + 1 }
         requires few { added.now.count ≤ 2 ^ 50 }
@@ -96,9 +112,13 @@ fn add_beside<R: Threads + Wait + Sync, S: Source>(
         ensures kind { IfErr result (λ why. ((why ≡ stop.ReadFault) ⊎ (why ≡ stop.WriteFault)) → ⊥) }
     { add_batch(rt, alloc, plan, bound, batch, added, size) };
     let mut read = || -> Result<bool, WindowAnswer>
-        requires { next.now.next.lines ≡ [] }
-        ensures filled { IfOk result (IsFilledBatch (S.left source.entry.now) (S.left source.exit.now) next.entry.now.next next.exit.now) }
-        ensures why { IfErr result (IsNotFilled (S.left source.entry.now) (S.left source.exit.now) (S.faults source.entry.now) (S.faults source.exit.now) next.entry.now.next) }
+        requires next { next.now.next.lines ≡ [] }
+        requires start { next.now.feeds ≡ next.now.before }
+        requires few_feeds { next.now.feeds ≤ 2 ^ 60 }
+        ensures filled { IfOk result (IsFilledBatch (S.left source.entry.now) (S.left source.exit.now) next.entry.now.next next.entry.now.before next.exit.now) }
+        ensures why { IfErr result (IsNotFilled (S.left source.entry.now) (S.left source.exit.now) (S.faults source.entry.now) (S.faults source.exit.now) next.entry.now.next next.exit.now.next) }
+        ensures feeds { result ≡ Err answer.LongRecord → next.exit.now.feeds ≡ next.entry.now.feeds }
+        ensures few_feeds { next.exit.now.feeds ≤ 2 ^ 60 }
         ensures faults { S.faults source.entry.now ≤ S.faults source.exit.now }
     { next.fill(alloc, source, size) };
     let (adding, filling) = join_mut(rt, &mut add, &mut read);
@@ -117,6 +137,8 @@ pub(crate) fn add_batch<R: Threads + Wait + Sync>(
     size: usize,
 ) -> Result<(), Stop>
     requires pieces { length batch.now.pieces.items ≤ 64 }
+    requires lines { All IsLined batch.now.pieces.items }
+    requires feeds { batch.now.before + feeds_of batch.now.pieces.items ≤ 2 ^ 60 }
     requires columns { HaveColumns bound.now batch.now.pieces.items }
     requires many { participants_of added.old.gathered ≡ plan.now.workers + 1 }
     requires few { added.old.count ≤ 2 ^ 50 }
@@ -130,7 +152,10 @@ pub(crate) fn add_batch<R: Threads + Wait + Sync>(
     let pieces = batch.pieces.as_slice();
     let (new, more) = match old.add_pieces(rt, alloc, pieces, bound, size) {
         Ok(done) => done,
-        Err(why) => return Err(stop_of_block(alloc, plan, bound, pieces, added.count, why)),
+        Err(why) => {
+            let stop = stop_of_block(alloc, plan, bound, pieces, added.count, batch.before, why);
+            return Err(stop);
+        }
     };
     added.gathered = new;
     added.count = added.count.saturating_add(more);

@@ -30,11 +30,13 @@ mod batch;
 mod filling;
 mod gathered;
 mod output;
+mod place;
 mod progress;
 mod reading;
 mod refused;
 mod rows;
 mod stop;
+mod twice;
 mod words;
 
 pub use answer_text::{MISUSED, NO_MEMORY, READ_FAULT, REFUSED, TABLE, WRITE_FAULT};

@@ -1,10 +1,12 @@
 //! The groups of a source, batch by batch.
 
-ghost use Rattle.std.specs.Prelude.{◌≡◌, ◌≤◌, ◌++◌, ◌∷◌, ◌⊎◌, [], ℕ, List, Option, IfErr, IfOk, false, true};
+ghost use Rattle.std.specs.Prelude.{◌≡◌, ◌<◌, ◌≤◌, ◌+◌, ◌^◌, ◌++◌, ◌∷◌, ◌⊎◌, [], ℕ, List, Option, IfErr, IfOk, false, length, true};
 ghost use Rattle.csv_rows.specs.Records.{record_at};
 ghost use Rattle.par_io.specs.Faults.{Rose};
 ghost use Rattle.row_blocks.specs.Blocks.{Table};
-ghost use Rattle.par_stream.specs.Reading.{AreGroupsOver, HasHeader, HasRows, IsBound, IsStream, Reaches};
+ghost use Rattle.text_lines.specs.Feeds.{count_feeds};
+ghost use Rattle.par_stream.specs.Begins.{IsLined};
+ghost use Rattle.par_stream.specs.Reading.{AreGroupsOver, HasHeader, HasPart, HasRows, IsBound, IsStream, Reaches};
 ghost use Rattle.split_run.specs.Pieces.{piece_records};
 ghost use Rattle.par_stream.specs.Stops.{Tells};
 ghost use Rattle.par_stream.specs.declared.stop.Stop.TheVariants as stop;
@@ -88,8 +90,11 @@ fn so_far(bytes: u64, added: &Added) -> SoFar {
 fn open(alloc: Global, plan: &Plan, bound: &BoundPlan, first: First) -> Result<Stream, Stop>
     requires header { HasHeader first.header first.window first.is_last }
     requires bound { IsBound plan.now (record_at first.header 0) bound.now }
+    requires lined { IsLined first.window }
+    requires few { first.feeds ≤ 2 ^ 60 }
     ensures stream { IfOk result (IsStream plan.now bound.now) }
-    ensures rows { IfOk result (λ s. (from left : Option (List ℕ)) → Reaches from left (piece_records first.window) first.window.rest first.is_last → HasRows bound.now from left s []) }
+    ensures rows { IfOk result (λ s. (from left : Option (List ℕ)) → Reaches from left (piece_records first.window) (first.feeds + count_feeds first.window.lines) first.window.rest first.is_last
+        → (0 < length first.window.lines → HasPart from left (record_at first.header 0 ∷ []) first.feeds (first.window ∷ []) first.window.rest) → HasRows bound.now from left s []) }
     ensures why { IfErr result (λ why. why ≡ stop.Memory) }
 {
     let _of = bound;
@@ -97,10 +102,11 @@ fn open(alloc: Global, plan: &Plan, bound: &BoundPlan, first: First) -> Result<S
         window,
         header,
         is_last,
+        feeds,
     } = first;
     let maps = begin(alloc, plan.workers() + 1)?;
     Ok(Stream {
-        batch: Batch::of_window(alloc, window)?,
+        batch: Batch::of_window(alloc, window, feeds)?,
         is_last,
         spare: Batch::new(alloc),
         header,
@@ -138,13 +144,16 @@ fn next_window<R: Threads + Wait + Sync, S: Source>(
         header,
         mut added,
     } = stream;
-    spare.next.follow(&batch.next)?;
+    spare.follow(&batch)?;
     let filled = add_and_fill(
         rt, alloc, plan, bound, &batch, &mut added, &mut spare, source, size,
     )?;
     let is_last = match filled {
         Ok(is_last) => is_last,
-        Err(why) => return Err(stop_of_window(why, added.count + 1)),
+        Err(why) => {
+            let text = spare.next.rest();
+            return Err(stop_of_window(alloc, why, added.count + 1, spare.feeds, text));
+        }
     };
     Ok(Stream {
         batch: spare,

@@ -1,9 +1,10 @@
 //! The row that is refused, found again in the pieces of its batch, and what the line says of it.
 
-ghost use Rattle.std.specs.Prelude.{◌≡◌, ◌<◌, ◌≤◌, ◌+◌, ◌∷◌, ℕ, List, IfOk, IfSome, length, string_bytes};
+ghost use Rattle.std.specs.Prelude.{◌≡◌, ◌<◌, ◌≤◌, ◌+◌, ◌^◌, ◌∷◌, ℕ, List, IfOk, IfSome, length, string_bytes, take};
 ghost use Rattle.csv_rows.specs.Records.{record_at};
 ghost use Rattle.par_model.specs.Record.{field_of};
-ghost use Rattle.split_run.specs.Pieces.{AreUnder, rows_of};
+ghost use Rattle.split_run.specs.Pieces.{AreUnder, piece_records, rows_of};
+ghost use Rattle.par_stream.specs.Begins.{feeds_of, piece_at};
 ghost use Rattle.par_stream.specs.Said.{filter_field, item_field, row_says};
 ghost use Rattle.par_stream.specs.Stops.{IsRow};
 
@@ -13,30 +14,49 @@ use plan_spec::Plan;
 use row_windows::Window;
 use shown_text::{number_text, width_text};
 use std::alloc::{AllocError, Global};
+use text_lines::line_feeds;
 
-/// A row in the store of the piece that it is in, by its place there.
+/// A row in the store of the piece that it is in, by its place there, the piece, and how many line feeds are in the lines of
+/// the pieces before it.
 #[derive(Drop)]
 pub(crate) struct Found {
     pub(crate) store: RowStore,
     pub(crate) at: u64,
+    pub(crate) piece: usize,
+    pub(crate) feeds: u64,
 }
 
 /// Finds a row by its number over all pieces. It reads the pieces up to it anew: so nothing is kept of a row until one is
 /// refused. It takes the memory of one piece's store.
 pub(crate) fn find_row(alloc: Global, pieces: &[Window], row: u64) -> Result<Found, AllocError>
-    requires { length pieces.now ≤ 64 }
+    requires pieces { length pieces.now ≤ 64 }
+    requires few { feeds_of pieces.now ≤ 2 ^ 60 }
     ensures within { IfOk result (λ f. f.at < length f.store) }
+    ensures some { IfOk result (λ f. 1 ≤ f.at) }
     ensures row { IfOk result (λ f. (header : List (List ℕ)) → AreUnder header pieces.now → IsRow (header ∷ rows_of pieces.now) row f.store f.at) }
+    ensures piece { IfOk result (λ f. f.piece < length pieces.now) }
+    ensures store { IfOk result (λ f. f.store ≡ piece_records (piece_at pieces.now f.piece)) }
+    ensures number { IfOk result (λ f. length (rows_of (take f.piece pieces.now)) + f.at ≡ row) }
+    ensures feeds { IfOk result (λ f. f.feeds ≡ feeds_of (take f.piece pieces.now)) }
 {
     let mut before = 0u64;
+    let mut feeds = 0u64;
+    let mut number = 0;
     for piece in pieces {
         let Ok(store) = rows(alloc, piece.table()) else {
             return Err(AllocError);
         };
         match place_in(row, before, store.count()) {
-            Some(at) => return Ok(Found { store, at }),
+            Some(place) => return Ok(Found {
+                store,
+                at: place,
+                piece: number,
+                feeds,
+            }),
             None => before += store.count(),
         }
+        feeds += line_feeds(piece.lines());
+        number += 1;
     }
     Err(AllocError)
 }

@@ -1,15 +1,20 @@
 //! What the records of a window say of a plan: its columns, and the row that is refused.
 
-ghost use Rattle.std.specs.Prelude.{◌≡◌, ◌<◌, ◌≤◌, ◌⊎◌, [], IfErr, IfOk, length, slice_index_or, string_bytes};
+ghost use Rattle.std.specs.Prelude.{◌≡◌, ◌<◌, ◌≤◌, ◌+◌, ◌^◌, ◌⊎◌, [], All, IfErr, IfOk, None, OnOk, length, slice_index_or, string_bytes};
 ghost use Rattle.csv_rows.specs.Records.{record_at};
 ghost use Rattle.par_model.specs.Named.{names_of};
 ghost use Rattle.shown_text.specs.Header.{missing_text};
+ghost use Rattle.par_model.specs.Columns.{HasColumns};
+ghost use Rattle.par_stream.specs.Begins.{IsLined, feeds_of, piece_at};
 ghost use Rattle.par_stream.specs.Reading.{IsBound};
-ghost use Rattle.par_stream.specs.Stops.{IsRefusedRow, Restates, SaysMissing, SaysOfRow};
+ghost use Rattle.par_stream.specs.Stops.{IsRefusedRow, Restates, SaysOfHeader, SaysOfRow};
+ghost use Rattle.par_stream.specs.Twice.{SaysTwice, twice_of};
 ghost use Rattle.par_stream.specs.declared.stop.Stop.TheVariants as stop;
 
+use crate::place::place_in_lines;
 use crate::refused::{find_row, row_says};
 use crate::stop::Stop;
+use crate::twice::{find_twice, twice_text};
 use csv_rows::{Record, RowStore};
 use par_model::{BoundPlan, Refusal};
 use partial_agg::BlockAnswer;
@@ -22,10 +27,13 @@ use std::alloc::{AllocError, Global};
 pub(crate) fn bind(alloc: Global, plan: &Plan, store: &RowStore) -> Result<BoundPlan, Stop>
     requires { length store.now ≡ 1 }
     ensures bound { IfOk result (IsBound plan.now (record_at store.now 0)) }
-    ensures missing { IfErr result (λ why. (why ≡ stop.Memory) ⊎ ((said : _) × (why ≡ stop.NoColumn said) × SaysMissing plan.now.plan (record_at store.now 0) (string_bytes said))) }
+    ensures why { IfErr result (SaysOfHeader plan.now.plan (record_at store.now 0)) }
 {
     match plan.bind(store) {
-        Ok(bound) => Ok(bound),
+        Ok(bound) => {
+            bind_once(alloc, &bound, &store.find(0))?;
+            Ok(bound)
+        }
         Err(missing) => {
             let said = says_missing(alloc, plan, missing.at, &store.find(0))?;
             Err(Stop::NoColumn(said))
@@ -33,17 +41,20 @@ pub(crate) fn bind(alloc: Global, plan: &Plan, store: &RowStore) -> Result<Bound
     }
 }
 
-/// The reason that stands for an answer on the rows of some windows, before which there are so many rows.
+/// The reason for an answer on the rows of some windows, before which there are so many rows and line feeds.
 pub(crate) fn stop_of_block(
     alloc: Global,
     plan: &Plan,
     bound: &BoundPlan,
     pieces: &[Window],
     before: u64,
+    feeds: u64,
     answer: BlockAnswer,
 ) -> Stop
-    requires { length pieces.now ≤ 64 }
-    ensures { Restates plan.now.plan bound.now pieces.now before answer result }
+    requires pieces { length pieces.now ≤ 64 }
+    requires lines { All IsLined pieces.now }
+    requires few { feeds + feeds_of pieces.now ≤ 2 ^ 60 }
+    ensures { Restates plan.now.plan bound.now pieces.now before feeds answer result }
 {
     match answer {
         BlockAnswer::Memory => Stop::Memory,
@@ -54,8 +65,24 @@ pub(crate) fn stop_of_block(
             pieces,
             before.saturating_add(row),
             row,
+            feeds,
             Refusal { cause, item },
         ),
+    }
+}
+
+/// An error if the header has a column of the plan twice.
+fn bind_once(alloc: Global, bound: &BoundPlan, header: &Record<'_>) -> Result<(), Stop>
+    requires { HasColumns bound.now (length header.now) }
+    ensures once { OnOk result (twice_of bound.now header.now ≡ None) }
+    ensures twice { IfErr result (λ why. (why ≡ stop.Memory) ⊎ ((said : _) × (why ≡ stop.TwiceColumn said) × SaysTwice bound.now header.now (string_bytes said))) }
+{
+    match find_twice(bound, header) {
+        None => Ok(()),
+        Some(twice) => {
+            let said = twice_text(alloc, header, twice)?;
+            Err(Stop::TwiceColumn(said))
+        }
     }
 }
 
@@ -80,32 +107,62 @@ fn stop_of_row(
     pieces: &[Window],
     number: u64,
     row: u64,
+    feeds: u64,
     why: Refusal,
 ) -> Stop
-    requires { length pieces.now ≤ 64 }
-    ensures { IsRefusedRow plan.now.plan bound.now pieces.now number row why result ⊎ (result ≡ stop.Memory) }
+    requires pieces { length pieces.now ≤ 64 }
+    requires lines { All IsLined pieces.now }
+    requires few { feeds + feeds_of pieces.now ≤ 2 ^ 60 }
+    ensures { IsRefusedRow plan.now.plan bound.now pieces.now number row feeds why result ⊎ (result ≡ stop.Memory) }
 {
-    match says_of_row(alloc, plan, bound, pieces, row, why) {
-        Ok(said) => Stop::Refused(number, said),
+    match says_of_row(alloc, plan, bound, pieces, row, feeds, why) {
+        Ok(said) => Stop::Refused(number, said.line, said.text),
         Err(AllocError) => Stop::Memory,
     }
 }
 
-/// What the line says of a row of some windows that is refused.
+/// The line in which a row begins, and what is said of it.
+#[derive(Drop)]
+struct RowSaid {
+    line: u64,
+    text: String,
+}
+
+/// What the line says of a row of some windows that is refused. So many line feeds come before their lines.
 fn says_of_row(
     alloc: Global,
     plan: &Plan,
     bound: &BoundPlan,
     pieces: &[Window],
     row: u64,
+    feeds: u64,
     why: Refusal,
-) -> Result<String, AllocError>
-    requires { length pieces.now ≤ 64 }
-    ensures { IfOk result (λ said. SaysOfRow plan.now.plan bound.now pieces.now row why (string_bytes said)) }
+) -> Result<RowSaid, AllocError>
+    requires pieces { length pieces.now ≤ 64 }
+    requires lines { All IsLined pieces.now }
+    requires few { feeds + feeds_of pieces.now ≤ 2 ^ 60 }
+    ensures { IfOk result (λ said. SaysOfRow plan.now.plan bound.now pieces.now row feeds why said.line (string_bytes said.text)) }
 {
     let found = find_row(alloc, pieces, row)?;
     let header = found.store.find(0);
     let fields = found.store.find(found.at);
-    let said = row_says(alloc, plan, bound, &header, &fields, why)?;
-    Ok(said)
+    let mut text = row_says(alloc, plan, bound, &header, &fields, why)?;
+    let lines = lines_at(pieces, found.piece);
+    let count = found.store.count();
+    let is_last = found.at == count;
+    let feeds = feeds + found.feeds;
+    let place = place_in_lines(alloc, lines, found.at - 1, is_last, feeds)?;
+    text.push_str(place.quote.as_str())?;
+    Ok(RowSaid {
+        line: place.line,
+        text,
+    })
+}
+
+/// The lines of the window of this number.
+fn lines_at(pieces: &[Window], at: usize) -> &[u8]
+    requires { at < length pieces.now }
+    ensures { result.now ≡ (piece_at pieces.now at).lines }
+{
+    pieces[at].lines()
 }

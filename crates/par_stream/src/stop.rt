@@ -4,7 +4,7 @@ ghost use Rattle.std.specs.Prelude.{◌≡◌, ◌++◌, codes, map};
 ghost use Rattle.std.specs.List.{concat};
 ghost use Rattle.answer_text.specs.Lines.{IsSaid};
 ghost use Rattle.par_stream.specs.Lines.{line};
-ghost use Rattle.par_stream.specs.Stops.{stop_of_words, stop_says};
+ghost use Rattle.par_stream.specs.Stops.{row_front_of, stop_of_words, stop_says};
 ghost use Rattle.par_stream.specs.declared.stop.Stop.TheVariants as stop;
 
 use answer_text::{MISUSED, NO_MEMORY, READ_FAULT, REFUSED, WRITE_FAULT, write_pieces};
@@ -15,16 +15,17 @@ use std::alloc::AllocError;
 /// A record is longer than 64 MiB.
 pub const LONG_RECORD: u8 = 7;
 
-/// Why there is no table. A row has its number over the whole input, of which the header's is 0. A row that is refused and
-/// a column that the header lacks have what the line says of them.
+/// Why there is no table. A record has its number over the whole input, of which the header's is 0, the line in which it
+/// begins, and what is said of it. A column that the header lacks, or has twice, has what the line says.
 #[derive(Debug, Drop)]
 pub enum Stop {
     Usage,
     ReadFault,
     NoHeader,
     NoColumn(String),
-    LongRecord(u64),
-    Refused(u64, String),
+    TwiceColumn(String),
+    LongRecord(u64, u64, String),
+    Refused(u64, u64, String),
     WriteFault,
     Memory,
 }
@@ -62,17 +63,21 @@ impl Stop {
         ensures { result ≡ (stop_says self.now).0 }
     {
         match self {
-            Stop::Usage | Stop::NoHeader | Stop::NoColumn(_) => MISUSED,
-            Stop::Refused(_, _) => REFUSED,
+            Stop::Usage | Stop::NoHeader | Stop::NoColumn(_) | Stop::TwiceColumn(_) => MISUSED,
+            Stop::Refused(_, _, _) => REFUSED,
             Stop::ReadFault => READ_FAULT,
             Stop::WriteFault => WRITE_FAULT,
             Stop::Memory => NO_MEMORY,
-            Stop::LongRecord(_) => LONG_RECORD,
+            Stop::LongRecord(_, _, _) => LONG_RECORD,
         }
     }
 
     /// The pieces of its line.
-    fn pieces<'a>(&'a self, digits: &'a mut itoa::Buffer) -> [&'a str; 6]
+    fn pieces<'a>(
+        &'a self,
+        row_digits: &'a mut itoa::Buffer,
+        line_digits: &'a mut itoa::Buffer,
+    ) -> [&'a str; 8]
         ensures { concat (map (λ piece. piece.now) result) ≡ line (stop_says self.now).1 }
     {
         match self {
@@ -82,8 +87,17 @@ impl Stop {
             Stop::ReadFault => plain("read fault"),
             Stop::NoHeader => plain("no header"),
             Stop::NoColumn(said) => plain(said.as_str()),
-            Stop::LongRecord(row) => { of_row(digits.format(*row), "longer than 67108864 bytes") }
-            Stop::Refused(row, said) => of_row(digits.format(*row), said.as_str()),
+            Stop::TwiceColumn(said) => plain(said.as_str()),
+            Stop::LongRecord(row, line, said) => of_row(
+                row_digits.format(*row),
+                line_digits.format(*line),
+                said.as_str(),
+            ),
+            Stop::Refused(row, line, said) => of_row(
+                row_digits.format(*row),
+                line_digits.format(*line),
+                said.as_str(),
+            ),
             Stop::WriteFault => plain("write fault"),
             Stop::Memory => plain("out of memory"),
         }
@@ -102,21 +116,31 @@ impl Stop {
     fn report<E: Sink>(&self, err: &mut E)
         ensures { IsSaid (E.taken err.old) (E.taken err.new) (E.faults err.old) (E.faults err.new) (line (stop_says self.now).1) }
     {
-        let mut digits = itoa::Buffer::new();
-        let _ = write_pieces(err, &self.pieces(&mut digits));
+        let mut row_digits = itoa::Buffer::new();
+        let mut line_digits = itoa::Buffer::new();
+        let _ = write_pieces(err, &self.pieces(&mut row_digits, &mut line_digits));
     }
 }
 
 /// The pieces of a line that names no row: a text.
-fn plain<'a>(text: &'a str) -> [&'a str; 6]
+fn plain<'a>(text: &'a str) -> [&'a str; 8]
     ensures { concat (map (λ piece. piece.now) result) ≡ line text.now }
 {
-    ["parstream: ", "", "", "", text, "\n"]
+    ["parstream: ", "", "", "", "", "", text, "\n"]
 }
 
-/// The pieces of a line that names a row by its number, and then has a text.
-fn of_row<'a>(number: &'a str, text: &'a str) -> [&'a str; 6]
-    ensures { concat (map (λ piece. piece.now) result) ≡ line ((codes "row " ++ (number.now ++ codes ": ")) ++ text.now) }
+/// The pieces of a line that names a record by its number and the line in which it begins, and then has a text.
+fn of_row<'a>(number: &'a str, at: &'a str, text: &'a str) -> [&'a str; 8]
+    ensures { concat (map (λ piece. piece.now) result) ≡ line (row_front_of number.now at.now ++ text.now) }
 {
-    ["parstream: ", "row ", number, ": ", text, "\n"]
+    [
+        "parstream: ",
+        "row ",
+        number,
+        " (line ",
+        at,
+        "): ",
+        text,
+        "\n",
+    ]
 }

@@ -9,6 +9,8 @@ mod faults;
 #[cfg(test)]
 mod filters;
 #[cfg(test)]
+mod lines;
+#[cfg(test)]
 mod ranges;
 #[cfg(test)]
 mod shares;

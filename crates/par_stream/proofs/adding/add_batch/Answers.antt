@@ -1,8 +1,9 @@
-use Rattle.std.proofs.Common.{◌≡◌, ◌<◌, ◌+◌, ◌^◌, ◌∙◌, List, ap, arith, length, length-append, min, subst, sym}
+use Rattle.std.proofs.Common.{◌≡◌, ◌<◌, ◌≤◌, ◌+◌, ◌^◌, ◌∙◌, All, List, ap, arith, length, length-append, min, subst, sym}
 use Rattle.row_windows.specs.Stretch.{Stretch}
 use Rattle.split_run.specs.Causes.{IsFirstOfAll}
 use Rattle.split_run.specs.Hands.{most}
 use Rattle.split_run.specs.Pieces.{HaveColumns, rows_of}
+use Rattle.par_stream.specs.Begins.{IsLined, feeds_of}
 use Rattle.par_stream.specs.Gathering.{HasGathered, TakesBatch, participants_of}
 use Rattle.par_stream.specs.Stops.{Restates}
 use Rattle.par_stream.proofs.Gathering.{all_accepted}
@@ -21,17 +22,29 @@ add_pieces-requires-clause-some g c κs within = omega (arith, c.requires.many, 
 pub add_pieces-requires-clause-few : goal.add_pieces-requires-clause-few
 add_pieces-requires-clause-few g c κs within = omega (arith, c.requires.many, c.workers-workers.ensures.within, ap participants_of c.replace-old.ensures.value)
 
+-- ---- the reason, by the pieces of the batch
+
+pub stop_of_block-stop-requires-clause-lines : goal.stop_of_block-stop-requires-clause-lines
+stop_of_block-stop-requires-clause-lines g c = subst (All IsLined) (sym c.as_slice-pieces.ensures.value) c.requires.lines
+
+pub stop_of_block-stop-requires-clause-few : goal.stop_of_block-stop-requires-clause-few
+stop_of_block-stop-requires-clause-few g c = subst (λ (ws : List Stretch). c.args.batch.now.before + feeds_of ws ≤ 2 ^ 60) (sym c.as_slice-pieces.ensures.value) c.requires.feeds
+
 pub returns-in-Err-clause-why : goal.returns-in-Err-clause-why
 returns-in-Err-clause-why g c =
     let query = c.args.plan.now in
     let bound = c.args.bound.now in
-    let pieces = c.args.batch.now.pieces.items in
+    let batch = c.args.batch.now in
+    let pieces = batch.pieces.items in
     let added = c.args.added.now in
-    let cause : IsFirstOfAll bound pieces c.in-Err.why = subst (λ (ws : List Stretch). IsFirstOfAll bound ws c.in-Err.why) c.as_slice-pieces.ensures.value c.in-Err.ensures.cause in
-    λ from header rows is under has begins.
-    let restated : Restates query.plan bound pieces added.count c.in-Err.why c.stop_of_block.result = subst (λ (ws : List Stretch). Restates query.plan bound ws added.count c.in-Err.why c.stop_of_block.result) c.as_slice-pieces.ensures.value c.stop_of_block.ensures in
-    refused_tells query header bound is from added.count rows pieces c.in-Err.why c.stop_of_block.result has.count c.requires.few c.in-Err.ensures.low begins (all_accepted bound (length header) rows added.gathered has.groups) under (cause header under)
-    restated
+    let same = c.as_slice-pieces.ensures.value in
+    let said = c.stop_of_block-stop.result in
+    let cause : IsFirstOfAll bound pieces c.in-Err.why = subst (λ (ws : List Stretch). IsFirstOfAll bound ws c.in-Err.why) same c.in-Err.ensures.cause in
+    let restated : Restates query.plan bound pieces added.count batch.before c.in-Err.why said =
+    subst (λ (ws : List Stretch). Restates query.plan bound ws added.count batch.before c.in-Err.why said) same c.stop_of_block-stop.ensures in
+    λ from left header rows is under has begins part.
+    refused_tells query header bound is from left added.count rows batch.before pieces batch.next.rest c.in-Err.why said has.count c.requires.few c.in-Err.ensures.low begins part c.requires.lines
+    (all_accepted bound (length header) rows added.gathered has.groups) under (cause header under) restated
 
 pub returns-clause-added : goal.returns-clause-added
 returns-clause-added g c =

@@ -1,4 +1,4 @@
-use Rattle.std.proofs.Common.{◌≡◌, ◌≤◌, []}
+use Rattle.std.proofs.Common.{◌≡◌, ◌≤◌, ◌^◌, []}
 use Rattle.par_stream.specs.Reading.{HasRead}
 use Rattle.par_stream.proofs.filling.first_window.Given as goal
 
@@ -9,6 +9,7 @@ invariant-loop g l = record {
   finite : (goal.iterator-loop g).is_finite l.iterator';
   header : l.window.header ≡ [];
   lines : l.window.lines ≡ [];
-  read : HasRead (g.S.Source.left l.fn.source) (g.S.Source.left l.source) [] l.window.rest;
+  read : HasRead (g.S.Source.left l.fn.source) (g.S.Source.left l.source) [] l.feeds l.window.rest;
+  few : l.feeds ≤ 2 ^ 60;
   faults : g.S.Source.faults l.fn.source ≤ g.S.Source.faults l.source;
 }

@@ -1,4 +1,4 @@
-use Rattle.std.proofs.Common.{◌++◌, ◌∷◌, ℕ, List, Option, arith, rules}
+use Rattle.std.proofs.Common.{◌<◌, ◌++◌, ◌∷◌, ℕ, List, Option, arith, rules}
 use Rattle.csv_rows.specs.Records.{record_at}
 use Rattle.row_blocks.specs.Blocks.{Table}
 use Rattle.split_run.specs.Pieces.{rows_of}
@@ -12,12 +12,16 @@ add_batch-requires-clause-columns g c κs within =
     let s = c.args.stream in
     have_columns c.args.plan.now (record_at s.header 0) c.args.bound c.requires.stream.bound s.batch.pieces.items c.requires.stream.batch.pieces
 
+pub add_batch-requires-clause-feeds : goal.add_batch-requires-clause-feeds
+add_batch-requires-clause-feeds g c κs within = let b = c.requires.stream.batch in omega (arith, b.counted, b.few_feeds)
+
 pub returns-in_err-add_batch-clause-why : goal.returns-in_err-add_batch-clause-why
 returns-in_err-add_batch-clause-why g c =
     let s = c.args.stream in
     let header = record_at s.header 0 in
     let here : (from left : Option (List ℕ)) (rows : Table) → HasRows c.args.bound from left s rows → Tells c.args.plan.now from c.in_err-add_batch.field-0.0 = λ from left rows has.
-    c.in_err-add_batch.ensures.why from header rows c.requires.stream.bound c.requires.stream.batch.pieces has.added (begins from left (header ∷ (rows ++ rows_of s.batch.pieces.items)) s.batch.next.rest s.is_last has.reaches) in
+    c.in_err-add_batch.ensures.why from left header rows c.requires.stream.bound c.requires.stream.batch.pieces has.added
+    (begins from left (header ∷ (rows ++ rows_of s.batch.pieces.items)) s.batch.feeds s.batch.next.rest s.is_last has.reaches) has.part in
     search rules
 
 pub returns-clause-groups : goal.returns-clause-groups

@@ -1,6 +1,7 @@
-use Rattle.std.proofs.Common.{◌∷◌, arith, rules, subst}
+use Rattle.std.proofs.Common.{◌+◌, ◌∷◌, arith, rules, subst}
 use Rattle.csv_rows.specs.Records.{record_at}
 use Rattle.split_run.specs.Pieces.{piece_records, piece_rows}
+use Rattle.text_lines.specs.Feeds.{count_feeds}
 use Rattle.par_stream.specs.Reading.{Begins}
 use Rattle.par_stream.specs.Stops.{Tells}
 use Rattle.par_stream.proofs.Refusals.{begins, missing_tells}
@@ -19,6 +20,6 @@ returns-in_err-bound-clause-why g c =
     let is = c.in_ok-first.ensures in
     let header = record_at f.header 0 in
     let rows = piece_rows f.window in
-    let begun : Begins from (header ∷ rows) = subst (Begins from) is.header.records (begins from (g.S.Source.left c.first_window.new.source) (piece_records f.window) f.window.rest f.is_last is.reaches) in
-    let here : Tells c.args.plan.now from why = missing_tells c.args.plan.now from (header ∷ rows) why begun (omega arith) c.in_err-bound.ensures.missing in
+    let begun : Begins from (header ∷ rows) = subst (Begins from) is.header.records (begins from (g.S.Source.left c.first_window.new.source) (piece_records f.window) (f.feeds + count_feeds f.window.lines) f.window.rest f.is_last is.reaches) in
+    let here : Tells c.args.plan.now from why = missing_tells c.args.plan.now from (header ∷ rows) why begun (omega arith) c.in_err-bound.ensures.why in
     search rules

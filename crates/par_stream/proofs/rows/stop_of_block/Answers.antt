@@ -1,4 +1,4 @@
-use Rattle.std.proofs.Common.{◌≡◌, ◌+◌, ◌⊎◌, arith, subst, sym}
+use Rattle.std.proofs.Common.{◌≡◌, ◌+◌, ◌⊎◌, ℕ, arith, subst, sym}
 use Rattle.partial_agg.specs.declared.map.BlockAnswer.{BlockAnswer}
 use Rattle.par_stream.specs.Stops.{IsRefusedRow, Restates}
 use Rattle.par_stream.specs.declared.stop.Stop.TheVariants as stop
@@ -9,8 +9,9 @@ returns-in-Row c =
     let plan = c.args.plan.now.plan in
     let bound = c.args.bound.now in
     let pieces = c.args.pieces.now in
+    let feeds = c.args.feeds in
     let said = c.stop_of_row.result in
-    subst (λ (a : BlockAnswer). Restates plan bound pieces c.args.before a said) (sym c.in-Row.is)
+    subst (λ (a : BlockAnswer). Restates plan bound pieces c.args.before feeds a said) (sym c.in-Row.is)
     (λ small.
     let same : c.saturating_add.result ≡ c.args.before + c.in-Row.row = omega (arith, c.saturating_add.ensures, small) in
-    subst (λ n. IsRefusedRow plan bound pieces n c.in-Row.row (record { cause = c.in-Row.cause; item = c.in-Row.item }) said ⊎ (said ≡ stop.Memory)) same c.stop_of_row.ensures)
+    subst (λ (n : ℕ). IsRefusedRow plan bound pieces n c.in-Row.row feeds (record { cause = c.in-Row.cause; item = c.in-Row.item }) said ⊎ (said ≡ stop.Memory)) same c.stop_of_row.ensures)

@@ -1,5 +1,6 @@
-use Rattle.std.proofs.Common.{◌≡◌, ◌++◌, ◌∷◌, ◌∙◌, [], Ok, ap, subst}
+use Rattle.std.proofs.Common.{◌≡◌, ◌+◌, ◌++◌, ◌∷◌, ◌∙◌, [], ℕ, List, Ok, ap, refl, subst}
 use Rattle.row_windows.specs.Stretch.{Stretch}
+use Rattle.text_lines.specs.Feeds.{count_feeds}
 use Rattle.par_stream.proofs.Windows.{is_filled}
 use Rattle.par_stream.proofs.batch.Batch.add_piece.Goals as goal
 
@@ -20,4 +21,10 @@ returns-clause-added g c =
       header = ap (λ (w : Stretch). w.header) next ∙ follows.header;
       lines = ap (λ (w : Stretch). w.lines) next ∙ follows.lines;
       rest = ap (λ (w : Stretch). w.rest) next ∙ follows.rest;
+      before = refl;
+      feeds = c.in-Ok-more_feeds.ensures.more ∙ ap (λ (l : List ℕ). was.feeds + count_feeds l) c.lines.ensures;
+      few = c.in-Ok-more_feeds.ensures.few;
     }
+
+pub returns-in-Err-clause-long : goal.returns-in-Err-clause-long
+returns-in-Err-clause-long g c = λ e. record { pieces = refl; next = c.in-Err.ensures.long e; before = refl; feeds = refl }

@@ -1,7 +1,7 @@
 use Rattle.std.proofs.Common.{rules, ◌≡◌, ◌++◌, ◌∙◌, codes, ℕ, List, ap, sym}
 use Rattle.std.specs.Prelude.{string_bytes}
 use Rattle.par_stream.specs.Lines.{line}
-use Rattle.par_stream.specs.Stops.{row_front, stop_says}
+use Rattle.par_stream.specs.Stops.{row_front, row_front_of, stop_says}
 use Rattle.par_stream.specs.declared.stop.Stop.{Stop}
 use Rattle.par_stream.proofs.stop.Stop.pieces.Goals as goal
 
@@ -23,10 +23,16 @@ returns-in-NoColumn c =
     let said : c.as_str.result.now ≡ string_bytes c.in-NoColumn.said = search rules in
     c.plain-in-NoColumn.ensures ∙ (ap line said ∙ sym (ap line_of c.in-NoColumn.is))
 
+pub returns-in-TwiceColumn : goal.returns-in-TwiceColumn
+returns-in-TwiceColumn c =
+    let said : c.as_str-in-TwiceColumn.result.now ≡ string_bytes c.in-TwiceColumn.said = search rules in
+    c.plain-in-TwiceColumn.ensures ∙ (ap line said ∙ sym (ap line_of c.in-TwiceColumn.is))
+
 pub returns-in-LongRecord : goal.returns-in-LongRecord
 returns-in-LongRecord c =
-    let front : (codes "row " ++ (c.format.result.now ++ codes ": ")) ≡ row_front c.in-LongRecord.row = search rules in
-    c.of_row.ensures ∙ (ap (λ (f : List ℕ). line (f ++ codes "longer than 67108864 bytes")) front ∙ sym (ap line_of c.in-LongRecord.is))
+    let front : row_front_of c.format.result.now c.format-in-LongRecord.result.now ≡ row_front c.in-LongRecord.row c.in-LongRecord.line = search rules in
+    let said : c.as_str-in-LongRecord.result.now ≡ string_bytes c.in-LongRecord.said = search rules in
+    c.of_row.ensures ∙ (ap (λ (f : List ℕ). line (f ++ c.as_str-in-LongRecord.result.now)) front ∙ (ap (λ (t : List ℕ). line (row_front c.in-LongRecord.row c.in-LongRecord.line ++ t)) said ∙ sym (ap line_of c.in-LongRecord.is)))
 
 pub returns-in-WriteFault : goal.returns-in-WriteFault
 returns-in-WriteFault c = c.plain-in-WriteFault.ensures ∙ sym (ap line_of c.in-WriteFault.is)
