@@ -1,13 +1,2 @@
-mod AllEnds
-mod Batches
-mod Feeds
-mod Found
-mod Gathering
-mod Parts
-mod Places
-mod Refusals
 mod Statuses
-mod Streams
 mod Tables
-mod Twice
-mod Windows

@@ -8,13 +8,13 @@ use Rattle.par_model.specs.Plan.{Plan}
 use Rattle.plan_spec.specs.Query.{Query}
 use Rattle.row_blocks.specs.Blocks.{Table}
 use Rattle.par_stream.specs.Answers.{IsTableText}
-use Rattle.par_stream.specs.Outcome.{outcome}
-use Rattle.par_stream.specs.Gathering.{HasGathered}
-use Rattle.par_stream.specs.Reading.{AreGroupsOver}
-use Rattle.par_stream.specs.Twice.{twice_of}
-use Rattle.par_stream.specs.declared.reading.ReadGroups.{ReadGroups}
-use Rattle.par_stream.proofs.Gathering.{all_accepted}
-use Rattle.par_stream.proofs.Refusals.{accepted_table}
+use Rattle.stream_groups.specs.Outcome.{outcome}
+use Rattle.stream_groups.specs.Gathering.{HasGathered}
+use Rattle.stream_groups.specs.Reading.{AreGroupsOver}
+use Rattle.stream_groups.specs.Twice.{twice_of}
+use Rattle.stream_groups.specs.declared.reading.ReadGroups.{ReadGroups}
+use Rattle.stream_groups.proofs.Gathering.{all_accepted}
+use Rattle.stream_groups.proofs.Refusals.{accepted_table}
 
 -- what holds of every error holds of the one that there is
 pub IfErr-each : {T E : Type 0} (r : Result T E) (P : E → Type 0) → ((why : E) → P why) → IfErr r P

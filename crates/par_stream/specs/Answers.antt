@@ -8,10 +8,10 @@ use Rattle.par_model.specs.Plan.{Plan}
 use Rattle.plan_spec.specs.Query.{Query}
 use Rattle.result_text.specs.Pieces.{joined}
 use Rattle.row_blocks.specs.Blocks.{Table as Records}
-use Rattle.par_stream.specs.Gathering.{HasGathered}
-use Rattle.par_stream.specs.Outcome.{outcome_over}
-use Rattle.par_stream.specs.Twice.{twice_of}
-use Rattle.par_stream.specs.declared.gathered.Gathered.{Gathered}
+use Rattle.stream_groups.specs.Gathering.{HasGathered}
+use Rattle.stream_groups.specs.Outcome.{outcome_over}
+use Rattle.stream_groups.specs.Twice.{twice_of}
+use Rattle.stream_groups.specs.declared.gathered.Gathered.{Gathered}
 
 -- a query is asked for, its outcome over bytes is a table, the header has no column of it twice, and this is the text of that
 -- table

@@ -1,5 +1,0 @@
-use Rattle.std.proofs.Common.{◌+◌, ℕ, ap}
-use Rattle.par_stream.proofs.filling.more_feeds.Goals as goal
-
-pub returns-clause-more : goal.returns-clause-more
-returns-clause-more c = ap (λ (n : ℕ). c.args.feeds + n) c.line_feeds-count.ensures.count

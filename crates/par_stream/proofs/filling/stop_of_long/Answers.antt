@@ -1,5 +1,0 @@
-use Rattle.std.proofs.Common.{inl, refl}
-use Rattle.par_stream.proofs.filling.stop_of_long.Goals as goal
-
-pub returns-in-Ok : goal.returns-in-Ok
-returns-in-Ok c = inl (c.in-Ok.place.line, c.in-Ok.place.said, refl, c.in-Ok.ensures)

@@ -1,7 +1,0 @@
-use Rattle.std.proofs.Common.{◌∙◌, ap}
-use Rattle.row_windows.specs.Stretch.{Stretch}
-use Rattle.par_stream.proofs.Found.{same_there}
-use Rattle.par_stream.proofs.rows.lines_at.Goals as goal
-
-pub returns : goal.returns
-returns c = c.lines.ensures ∙ ap (λ (w : Stretch). w.lines) (same_there c.args.pieces.now c.args.at c.index-pieces-at.result c.requires c.index-pieces-at.is)

@@ -1,7 +1,0 @@
-use Rattle.std.proofs.Common.{◌≡◌, map, take}
-use Rattle.std.specs.Prelude.{None}
-use Rattle.par_stream.specs.Twice.{first_some, later_same}
-use Rattle.par_stream.proofs.twice.filter_twice.Given as goal
-
-abbrev pub invariant-loop-at : goal.invariant-loop-at
-invariant-loop-at l = first_some (map (λ filter. later_same l.header filter.column) (take l.at l.filters)) ≡ None

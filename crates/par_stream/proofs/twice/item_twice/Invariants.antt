@@ -1,7 +1,0 @@
-use Rattle.std.proofs.Common.{◌≡◌, map, take}
-use Rattle.std.specs.Prelude.{None}
-use Rattle.par_stream.specs.Twice.{first_some, item_same}
-use Rattle.par_stream.proofs.twice.item_twice.Given as goal
-
-abbrev pub invariant-loop-at : goal.invariant-loop-at
-invariant-loop-at l = first_some (map (λ item. item_same l.header item) (take l.at l.items)) ≡ None
