@@ -36,7 +36,7 @@ returns-clause-groups g c =
     record {
       header = header;
       rows = rows ++ rows_of s.batch.pieces.items;
-      one = ap records_of (c.in_ok-header.ensures ∙ c.header.ensures) ∙ (h.line ∙ (one_record s.header (s.header ++ []) [] h.one refl).1);
+      one = ap records_of (c.in_ok-header.ensures.items ∙ c.header.ensures) ∙ (h.line ∙ (one_record s.header (s.header ++ []) [] h.one refl).1);
       count = all.count;
       bound = c.requires.stream.bound;
       groups = all.groups;

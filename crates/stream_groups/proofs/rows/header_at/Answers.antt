@@ -14,4 +14,4 @@ returns c =
     let there : c.header.result.now ≡ (piece_at pieces at).header = c.header.ensures ∙ ap (λ (w : Stretch). w.header) (same_there pieces at c.index-pieces-at.result c.requires.within c.index-pieces-at.is) in
     let lined : IsLined (piece_at pieces at) = c.requires.lines at no_stretch c.requires.within in
     IfOk-weaker c.from_slice.result _ _ (λ bytes same header under.
-    ap records_of (same ∙ there) ∙ (lined.one ∙ ap (λ (l : Table). record_at l 0 ∷ []) (under at no_stretch c.requires.within))) c.from_slice.ensures
+    ap records_of (same ∙ there) ∙ (lined.one ∙ ap (λ (l : Table). record_at l 0 ∷ []) (under at no_stretch c.requires.within))) c.from_slice.ensures.items
