@@ -12,7 +12,7 @@ count_none = refl
 
 pub count_append : (a b : List ℕ) → count_feeds (a ++ b) ≡ count_feeds a + count_feeds b
 unfolding count_feeds
-count_append [] b = refl
+count_append [] b = let none : count_feeds b ≡ 0 + count_feeds b = omega arith in none
 count_append (c ∷ a) b = omega (arith, count_append a b)
 
 pub count_few : (bytes : List ℕ) → count_feeds bytes ≤ length bytes

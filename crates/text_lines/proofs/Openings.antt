@@ -92,8 +92,8 @@ opening_later text from to (Some q) order clear l = record {
 
 -- nor at one place
 one_place : (text : List ℕ) (at : ℕ) (last : Option ℕ) → (IsOpening text at → ⊥) → IsLastOpening text at last → IsLastOpening text (at + 1) last
-one_place text at last no l =
-    opening_later text at (at + 1) last (omega arith) (λ k low high is. let same : k ≡ at = omega (arith, low, high) in no (subst (IsOpening text) same is)) l
+one_place text at last never l =
+    opening_later text at (at + 1) last (omega arith) (λ k low high is. let same : k ≡ at = omega (arith, low, high) in never (subst (IsOpening text) same is)) l
 
 pub no_may : (text : List ℕ) (at : ℕ) (p : Place) (last : Option ℕ) → p ≡ place_after place.Opens (take at text) → is_open_place p ≡ false → IsLastOpening text at last → IsLastOpening text (at + 1) last
 no_may text at p last here other l = one_place text at last (no_opening_place text at p here other) l
@@ -135,7 +135,7 @@ record IsCalm (text : List ℕ) (n : ℕ) : Type 0 where
   shut : place_after place.Opens (take n text) ≡ place.Opens → n ≢ 0 → slice_index text (n - 1) ≢ 34
 
 calm_next : (text : List ℕ) (n : ℕ) → n < length text → (IsOpening text n → ⊥) → IsCalm text n → IsCalm text (n + 1)
-calm_next text n low no calm =
+calm_next text n low never calm =
     let c = slice_index text n in
     let p = place_after place.Opens (take n text) in
     let next : place_after place.Opens (take (n + 1) text) ≡ place_after p (c ∷ []) = ap (place_after place.Opens) (take_more text n 0 low) ∙ place-append place.Opens (take n text) (c ∷ []) in
@@ -144,7 +144,7 @@ calm_next text n low no calm =
       | inl quote ↦
           let is : c ≡ 34 = eqb-true c 34 quote in
           let may : p ≢ place.Opens = λ e. elim (cases_Bool (is_first text n)) [
-            | inl first ↦ no (opening text n p is refl (ap is_open_place e) first)
+            | inl first ↦ never (opening text n p is refl (ap is_open_place e) first)
             | inr later ↦ calm.shut e (λ zero_is. let bad : true ≡ false = sym (first_of_text text n zero_is) ∙ later in cc bad) (quote_before text n later)
           ] in
           let here : place_after place.Opens (take (n + 1) text) ≡ place.Inside = next ∙ (ap (λ (d : ℕ). place_after p (d ∷ [])) is ∙ (one-quote p ∙ ap after_quote (inside p calm.outer may))) in
@@ -155,15 +155,15 @@ calm_next text n low no calm =
       }
     ]
   where
+    or_true : (a b : Bool) → b ≡ true → (a || b) ≡ false → ⊥
+    or_true true b e h = let bad : true ≡ false = h in cc bad
+    or_true false b e h = let bad : true ≡ false = sym e ∙ h in cc bad
+
     quote_before : (text : List ℕ) (n : ℕ) → is_first text n ≡ false → slice_index text (n - 1) ≡ 34
     quote_before text n later = elim (cases_Bool (slice_index text (n - 1) == 34)) [
       | inl e ↦ eqb-true (slice_index text (n - 1)) 34 e
       | inr e ↦ absurd (or_true (n == 0) (not (slice_index text (n - 1) == 34)) (ap not e) later)
     ]
-
-    or_true : (a b : Bool) → b ≡ true → (a || b) ≡ false → ⊥
-    or_true true b e h = let bad : true ≡ false = h in cc bad
-    or_true false b e h = let bad : true ≡ false = sym e ∙ h in cc bad
 
 calm_all : (text : List ℕ) → NoOpening text 0 (length text) → (n : ℕ) → n ≤ length text → IsCalm text n
 calm_all text none zero high = record {

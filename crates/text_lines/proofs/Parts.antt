@@ -1,5 +1,5 @@
 -- Texts that end outside quotes, one after another.
-use Rattle.std.proofs.Common.{◌≡◌, ◌≢◌, ◌+◌, ◌++◌, ◌∙◌, inl, inr, ℕ, true, false, List, [], ◌∷◌, length, refl, ap, subst, sym, arith, length-append}
+use Rattle.std.proofs.Common.{◌≡◌, ◌≢◌, ◌+◌, ◌++◌, ◌∙◌, inl, inr, ℕ, true, false, List, [], ◌∷◌, length, refl, ap, sym, arith, length-append}
 use Rattle.std.specs.Prelude.{◌==◌}
 use Rattle.std.proofs.lemmas.Bool.{cases_Bool, eqb-true}
 use Rattle.csv.specs.Reading.{strip_bom}
@@ -42,6 +42,7 @@ strip_longer a (c ∷ b) line = elim (cases_Bool (c == 10)) [
 ]
 
 pub no_mark : (b : List ℕ) → BeginsLine b → strip_bom b ≡ b
+unfolding strip_bom
 no_mark b line = strip_longer [] b line
 
 -- two texts that end outside quotes, of which the second begins with the end of a line

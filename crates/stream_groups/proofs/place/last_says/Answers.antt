@@ -6,7 +6,7 @@ pub returns-then-is_last-clause-last : goal.returns-then-is_last-clause-last
 returns-then-is_last-clause-last c = IfOk-weaker c.quote_says.result _ _ (λ said says _. says) c.quote_says.ensures
 
 pub returns-then-is_last-clause-others : goal.returns-then-is_last-clause-others
-returns-then-is_last-clause-others c = IfOk-weaker c.quote_says.result _ _ (λ said says no. let bad : true ≡ false = sym c.if-is_last.true ∙ no in cc bad) c.quote_says.ensures
+returns-then-is_last-clause-others c = IfOk-weaker c.quote_says.result _ _ (λ said says unlike. let bad : true ≡ false = sym c.if-is_last.true ∙ unlike in cc bad) c.quote_says.ensures
 
 pub returns-clause-last : goal.returns-clause-last
 returns-clause-last c = λ yes. let bad : true ≡ false = sym yes ∙ c.if-is_last.false in cc bad

@@ -2,7 +2,6 @@ use Rattle.std.proofs.Common.{◌≡◌, ◌≢◌, ◌<◌, ◌+◌, ◌-◌, �
 use Rattle.std.proofs.lemmas.Bool.{eq-eqb, eqb-true}
 use Rattle.std.proofs.lemmas.List.{get_or-drop, length-drop, take_rest}
 use Rattle.csv_rows.specs.Places.{after_quote, place_after}
-use Rattle.csv_rows.specs.declared.place.Place.{Place}
 use Rattle.csv_rows.specs.declared.place.Place.TheVariants as place
 use Rattle.csv_rows.proofs.Scans.{one-quote, past-all, past-byte, place-append, place-none}
 use Rattle.std.proofs.Math.Seq.{take-add}
