@@ -9,8 +9,6 @@ mod faults;
 #[cfg(test)]
 mod filters;
 #[cfg(test)]
-mod ranges;
-#[cfg(test)]
 mod shares;
 #[cfg(test)]
 mod windows;
