@@ -13,5 +13,5 @@ text_in_threads-requires-clause-printable g c κs within =
 pub returns : goal.returns
 returns g c =
     let plan = c.args.bound.now in
-    IfOk-weaker c.text_in_threads.result _ _ (λ pieces answers header width rows bound few shared.
-    answers header rows c.in_ok-whole.whole bound (c.in_ok-whole.ensures plan width rows shared (omega (arith, few))) c.into_groups.ensures) c.text_in_threads.ensures.answer
+    IfOk-weaker c.text_in_threads-2.result _ _ (λ pieces answers header width rows bound few shared.
+    answers header rows c.in_ok-whole.whole bound (c.in_ok-whole.ensures plan width rows shared (omega (arith, few))) c.into_groups.ensures) c.text_in_threads-2.ensures.answer
