@@ -17,10 +17,13 @@ use par_model::BoundPlan;
 use part_run::Parts;
 use partial_agg::GroupMap;
 use plan_spec::Plan;
-use split_run::{FEWEST_GROUPS, table_text};
+use split_run::table_text;
 use std::alloc::{AllocError, Global};
 use std::thread::Threads;
 use stream_groups::{Gathered, ReadGroups, Stop, all_groups, may_part};
+
+/// The fewest groups in all maps for which it pays to part their keys.
+const FEWEST_GROUPS: usize = 16_384;
 
 /// Makes the text of the table of these groups in pieces, and writes them one behind the other.
 pub(crate) fn write_table<R: Threads + Sync, O: Sink>(
@@ -83,7 +86,7 @@ fn near_text<R: Threads + Sync>(
         let parts = Parts::begin(rt, alloc, maps)?;
         return parts_text(rt, alloc, plan, bound, parts);
     }
-    table_text(rt, alloc, plan, bound, maps, FEWEST_GROUPS)
+    table_text(rt, alloc, plan, bound, maps)
 }
 
 /// The text by the maps of the parts, to which all rows that wait are added first.

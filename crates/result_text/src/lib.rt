@@ -16,7 +16,7 @@ ghost use Rattle.result_text.specs.Pieces.{joined};
 ghost use Rattle.result_text.specs.Printable.{ArePrintable, IsBoundFrom};
 ghost use Rattle.csv.specs.Writing.{default_writer, row_text};
 ghost use Rattle.par_model.specs.Table.{table_header};
-ghost use Rattle.result_text.specs.Text.{AreLinesOf, IsTextOf};
+ghost use Rattle.result_text.specs.Text.{IsTextOf};
 
 mod decimal;
 mod laws;
@@ -26,7 +26,7 @@ mod parts;
 mod table;
 mod values;
 
-use crate::parts::{lines_in_threads, lines_of};
+use crate::parts::lines_in_threads;
 use crate::table::TableWriter;
 use crate::values::group_count;
 pub use laws::parts_answer;
@@ -106,14 +106,4 @@ pub fn header_text(alloc: Global, plan: &Plan, bound: &BoundPlan) -> Result<Vec<
     let mut table = TableWriter::new(alloc);
     table.write_header(plan, bound)?;
     table.into_text()
-}
-
-/// The lines of a table that some groups have, without its header, in order of the columns. Memory and time are those of
-/// [`text_of`].
-pub fn lines_text(alloc: Global, bound: &BoundPlan, groups: &Groups) -> Part
-    requires printable { ArePrintable bound.now groups.now }
-    ensures { IfOk result (λ text. AreLinesOf bound.now groups.now text.items) }
-{
-    let refs = in_order(alloc, groups, group_count(bound))?;
-    lines_of(alloc, bound, groups, &refs)
 }

@@ -40,12 +40,7 @@ pub(crate) fn lines_in_threads<R: Threads + Sync>(
 }
 
 /// The text of the lines of a range of groups.
-pub(crate) fn lines_of(
-    alloc: Global,
-    bound: &BoundPlan,
-    groups: &Groups,
-    refs: &[GroupRef<'_>],
-) -> Part
+fn lines_of(alloc: Global, bound: &BoundPlan, groups: &Groups, refs: &[GroupRef<'_>]) -> Part
     requires small { All (λ group. All IsSmallSlot group.state.slots) groups.now }
     requires within { All (λ group. group.at < length groups.now) refs.now }
     ensures { IfOk result (λ text. text.items ≡ lines_text bound.now groups.now refs.now) }

@@ -11,8 +11,6 @@ mod filters;
 #[cfg(test)]
 mod lines;
 #[cfg(test)]
-mod ranges;
-#[cfg(test)]
 mod shares;
 #[cfg(test)]
 mod windows;
