@@ -117,7 +117,7 @@ STREAMS = [
     ("--agg count --where PAR1=1", b"PAR1,PK\n1,2\n3,4\n", b"count\n1\n", b"", 0),
     ("--agg count --where g=a --where v!= --where=v<2", b"g,v\na,1\na,\nb,x\na,2\n", b"count\n1\n", b"", 0),
     ('--agg count --where g="1"', b"g\n1\n01\n", b"count\n1\n", b"", 0),
-    ("--agg count --where g=a --where v<2", b"g,v\nb,x\na,x\n", b"", b"parstream: row 2: filter column \"v\" is not an integer: \"x\"\n", 1),
+    ("--agg count --where g=a --where v<2", b"g,v\nb,x\na,x\n", b"", b"parstream: row 2 (line 3): filter column \"v\" is not an integer: \"x\"\n", 1),
     (
         "--agg sum:price,avg:price --where price>=-2.0 --decimals price=2",
         b"price\n1.50\n-2\n+.5\n\n",
@@ -129,9 +129,38 @@ STREAMS = [
         "--agg sum:price --decimals 1",
         b"price\n1.5\n1.50\n",
         b"",
-        b'parstream: row 2: column "price" is not a decimal with at most 1 place: "1.50"\n',
+        b'parstream: row 2 (line 3): column "price" is not a decimal with at most 1 place: "1.50"\n',
         1,
     ),
+    (
+        "--agg sum:v",
+        b'g,v\r\n"a\r\nb",1\r\n\r\nc,x\r\n',
+        b"",
+        b'parstream: row 2 (line 5): column "v" is not an integer: "x"\n',
+        1,
+    ),
+    (
+        "--agg sum:v",
+        b'g,v\na,1\n"b\nc","2\nd,3\ne,4\n',
+        b"",
+        b'parstream: row 2 (line 3): column "v" is not an integer: "2\\x0ad,3\\x0ae,4\\x0a"; the quote in line 4 is not closed\n',
+        1,
+    ),
+    (
+        "--agg count",
+        b'g,v\n"a\nb"\n"c',
+        b"",
+        b"parstream: row 1 (line 2): wrong number of fields: 1, the header has 2\n",
+        1,
+    ),
+    (
+        "--group g --agg sum:v",
+        b"g,v,g,v,g\na,1,b,2,c\n",
+        b"",
+        b'parstream: the header has column "g" twice: fields 1 and 3\n',
+        2,
+    ),
+    ("--group g --agg count", b"g,v,v\na,1,2\n", b"g,count\na,1\n", b"", 0),
 ]
 
 

@@ -1,17 +1,20 @@
 -- The text of the groups of all rows of a source.
 use Rattle.std.proofs.Common.{◌≡◌, ◌≤◌, ◌^◌, ◌∷◌, ◌∙◌, ℕ, List, Option, None, Some, Result, Ok, Err, IfErr, IfSome, length, refl, ap, subst, sym, take}
 use Rattle.std.specs.Io.KnownBytes.{Appends}
+use Rattle.csv_rows.specs.Records.{record_at}
 use Rattle.par_model.specs.Named.{bound_plan}
 use Rattle.par_model.specs.Outcome.{IsAnswer}
+use Rattle.par_model.specs.Plan.{Plan}
 use Rattle.plan_spec.specs.Query.{Query}
 use Rattle.row_blocks.specs.Blocks.{Table}
 use Rattle.par_stream.specs.Answers.{IsTableText}
-use Rattle.par_stream.specs.Outcome.{outcome}
-use Rattle.par_stream.specs.Gathering.{HasGathered}
-use Rattle.par_stream.specs.Reading.{AreGroupsOver}
-use Rattle.par_stream.specs.declared.reading.ReadGroups.{ReadGroups}
-use Rattle.par_stream.proofs.Gathering.{all_accepted}
-use Rattle.par_stream.proofs.Refusals.{accepted_table}
+use Rattle.stream_groups.specs.Outcome.{outcome}
+use Rattle.stream_groups.specs.Gathering.{HasGathered}
+use Rattle.stream_groups.specs.Reading.{AreGroupsOver}
+use Rattle.stream_groups.specs.Twice.{twice_of}
+use Rattle.stream_groups.specs.declared.reading.ReadGroups.{ReadGroups}
+use Rattle.stream_groups.proofs.Gathering.{all_accepted}
+use Rattle.stream_groups.proofs.Refusals.{accepted_table}
 
 -- what holds of every error holds of the one that there is
 pub IfErr-each : {T E : Type 0} (r : Result T E) (P : E → Type 0) → ((why : E) → P why) → IfErr r P
@@ -29,6 +32,7 @@ module _ (query : Query) (r : ReadGroups) (text : List ℕ) where
     query = query;
     is = refl;
     has_table = ap (outcome query.plan) over.all ∙ accepted_table query over.header r.bound over.bound over.rows (all_accepted r.bound (length over.header) over.rows r.gathered over.groups);
+    once = subst (λ (l : Table). twice_of (bound_plan (record_at l 0) query.plan) (record_at l 0) ≡ None) (sym over.all) (subst (λ (p : Plan). twice_of p over.header ≡ None) over.bound.is over.bound.once);
     is_text = subst (λ (l : Table). IsAnswer query.plan l text) (sym over.all) (answers over.header (length over.header) over.rows over.bound.is over.few over.groups);
   }
 

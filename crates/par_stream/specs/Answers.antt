@@ -1,22 +1,25 @@
 -- The text of a table.
-use Rattle.std.specs.Prelude.{◌≡◌, ◌≤◌, ◌^◌, ◌∷◌, ℕ, List, Option, Some, length}
+use Rattle.std.specs.Prelude.{◌≡◌, ◌≤◌, ◌^◌, ◌∷◌, ℕ, List, None, Option, Some, length}
 use Rattle.std.specs.Global.{Vec}
-use Rattle.csv_rows.specs.Records.{records_of}
+use Rattle.csv_rows.specs.Records.{record_at, records_of}
 use Rattle.par_model.specs.Named.{NamedPlan, bound_plan}
 use Rattle.par_model.specs.Outcome.{IsAnswer, Table}
 use Rattle.par_model.specs.Plan.{Plan}
 use Rattle.plan_spec.specs.Query.{Query}
 use Rattle.result_text.specs.Pieces.{joined}
 use Rattle.row_blocks.specs.Blocks.{Table as Records}
-use Rattle.par_stream.specs.Gathering.{HasGathered}
-use Rattle.par_stream.specs.Outcome.{outcome_over}
-use Rattle.par_stream.specs.declared.gathered.Gathered.{Gathered}
+use Rattle.stream_groups.specs.Gathering.{HasGathered}
+use Rattle.stream_groups.specs.Outcome.{outcome_over}
+use Rattle.stream_groups.specs.Twice.{twice_of}
+use Rattle.stream_groups.specs.declared.gathered.Gathered.{Gathered}
 
--- a query is asked for, its outcome over bytes is a table, and this is the text of that table
+-- a query is asked for, its outcome over bytes is a table, the header has no column of it twice, and this is the text of that
+-- table
 pub record IsTableText (asked : Option Query) (bytes text : List ℕ) : Type 0 where
   pub query : Query
   pub is : asked ≡ Some query
   pub has_table : outcome_over query.plan bytes ≡ Table
+  pub once : twice_of (bound_plan (record_at (records_of bytes) 0) query.plan) (record_at (records_of bytes) 0) ≡ None
   pub is_text : IsAnswer query.plan (records_of bytes) text
 
 -- the text of these pieces answers a plan, whatever the rows are that were gathered

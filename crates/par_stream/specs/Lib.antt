@@ -1,7 +1,1 @@
-pub mod Outcome
-pub mod Said
-pub mod Gathering
-pub mod Reading
-pub mod Stops
-pub mod Lines
 pub mod Answers

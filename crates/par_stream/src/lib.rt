@@ -19,34 +19,22 @@ ghost use Rattle.par_io.specs.Faults.{Rose};
 ghost use Rattle.answer_text.specs.Lines.{IsSaid};
 ghost use Rattle.answer_text.specs.Words.{texts};
 ghost use Rattle.par_stream.specs.Answers.{IsTableText};
-ghost use Rattle.par_stream.specs.Lines.{line};
-ghost use Rattle.par_stream.specs.Stops.{TellsOf, stop_says, usage_text};
+ghost use Rattle.stream_groups.specs.Lines.{line};
+ghost use Rattle.stream_groups.specs.Stops.{TellsOf, stop_says, usage_text};
 ghost use Rattle.plan_spec.specs.Query.{stream_query_of};
-ghost use Rattle.par_stream.specs.declared.stop.Stop.{Stop};
-ghost use Rattle.par_stream.specs.declared.stop.Stop.TheVariants as stop;
+ghost use Rattle.stream_groups.specs.declared.stop.Stop.{Stop};
+ghost use Rattle.stream_groups.specs.declared.stop.Stop.TheVariants as stop;
 
-mod adding;
-mod batch;
-mod filling;
-mod gathered;
 mod output;
-mod progress;
-mod reading;
-mod refused;
-mod rows;
-mod stop;
-mod words;
 
 pub use answer_text::{MISUSED, NO_MEMORY, READ_FAULT, REFUSED, TABLE, WRITE_FAULT};
 use output::write_table;
 use par_io::{Sink, Source};
-pub use progress::{Progress, SoFar, Untold};
-use reading::read_groups;
 use std::alloc::Global;
 use std::sync::Wait;
 use std::thread::Threads;
-pub use stop::{LONG_RECORD, Stop};
-use words::read_words;
+pub use stream_groups::{LONG_RECORD, Progress, SoFar, Stop, Untold};
+use stream_groups::{read_groups, read_words};
 
 /// The bytes that a batch of the program's windows is to have: 4 MiB.
 pub const WINDOW_BYTES: usize = 4_194_304;

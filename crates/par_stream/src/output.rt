@@ -5,14 +5,11 @@ ghost use Rattle.std.specs.Io.KnownBytes.{Appends};
 ghost use Rattle.par_io.specs.Faults.{Rose};
 ghost use Rattle.result_text.specs.Printable.{IsBoundFrom};
 ghost use Rattle.par_stream.specs.Answers.{AnswersGathered, IsTableText};
-ghost use Rattle.par_stream.specs.Gathering.{AreGathered};
-ghost use Rattle.par_stream.specs.Reading.{AreGroupsOver};
-ghost use Rattle.par_stream.specs.declared.gathered.Gathered.TheVariants as kept;
-ghost use Rattle.par_stream.specs.declared.stop.Stop.TheVariants as stop;
+ghost use Rattle.stream_groups.specs.Gathering.{AreGathered};
+ghost use Rattle.stream_groups.specs.Reading.{AreGroupsOver};
+ghost use Rattle.stream_groups.specs.declared.gathered.Gathered.TheVariants as kept;
+ghost use Rattle.stream_groups.specs.declared.stop.Stop.TheVariants as stop;
 
-use crate::gathered::{Gathered, all_groups, may_part};
-use crate::reading::ReadGroups;
-use crate::stop::Stop;
 use answer_text::write_each;
 use line_runs::table_of_parts;
 use par_io::Sink;
@@ -20,9 +17,13 @@ use par_model::BoundPlan;
 use part_run::Parts;
 use partial_agg::GroupMap;
 use plan_spec::Plan;
-use split_run::{FEWEST_GROUPS, table_text};
+use split_run::table_text;
 use std::alloc::{AllocError, Global};
 use std::thread::Threads;
+use stream_groups::{Gathered, ReadGroups, Stop, all_groups, may_part};
+
+/// The fewest groups in all maps for which it pays to part their keys.
+const FEWEST_GROUPS: usize = 16_384;
 
 /// Makes the text of the table of these groups in pieces, and writes them one behind the other.
 pub(crate) fn write_table<R: Threads + Sync, O: Sink>(
@@ -41,7 +42,11 @@ pub(crate) fn write_table<R: Threads + Sync, O: Sink>(
     ensures write_fault { IfErr result (λ why. why ≡ stop.WriteFault → Rose (O.faults out.old) (O.faults out.new)) }
     ensures why { IfErr result (λ why. (why ≡ stop.WriteFault) ⊎ (why ≡ stop.Memory)) }
 {
-    let ReadGroups { bound, gathered } = read;
+    let ReadGroups {
+        bound,
+        gathered,
+        ..
+    } = read;
     let pieces = text_of(rt, alloc, plan, &bound, gathered)?;
     write_each(out, &pieces)?;
     Ok(())
@@ -81,7 +86,7 @@ fn near_text<R: Threads + Sync>(
         let parts = Parts::begin(rt, alloc, maps)?;
         return parts_text(rt, alloc, plan, bound, parts);
     }
-    table_text(rt, alloc, plan, bound, maps, FEWEST_GROUPS)
+    table_text(rt, alloc, plan, bound, maps)
 }
 
 /// The text by the maps of the parts, to which all rows that wait are added first.

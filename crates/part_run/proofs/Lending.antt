@@ -15,7 +15,7 @@ use Rattle.row_blocks.proofs.Permute.{AllZip-join}
 use Rattle.gather_law.specs.KeyParts.{AreListings, groups_in, part_map, with_listed}
 use Rattle.gather_law.specs.Shares.{AreShared, rows_in}
 use Rattle.gather_law.proofs.PartMaps.{parts_join}
-use Rattle.split_run.proofs.Parting.{fold_push, no_group}
+use Rattle.part_run.proofs.Parting.{fold_push, no_group}
 use Rattle.row_lists.specs.Parts.{part_of}
 use Rattle.part_run.specs.Moving.{AreMade, lists_of}
 use Rattle.part_run.specs.Parted.{AreParted}

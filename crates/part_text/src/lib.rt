@@ -13,13 +13,13 @@ ghost use Rattle.part_text.specs.Whole.{ArePartsOf};
 use par_model::BoundPlan;
 use partial_agg::GroupMap;
 use plan_spec::Plan;
-use split_run::{FEWEST_GROUPS, table_text};
+use split_run::table_text;
 use std::alloc::{AllocError, Global};
 use std::thread::Threads;
 
 /// The text of the table of a whole text in pieces, one after another, from the maps of its tiles: each was made by itself, by
-/// anybody, of one tile after the header. The maps are used up. As many threads as the plan has workers take part; time and
-/// memory are those of [`table_text`].
+/// anybody, of one tile after the header. The maps are used up. At most as many threads as there are maps work, the caller's among
+/// them; time and memory are those of [`table_text`].
 pub fn text_of_parts<R: Threads + Sync>(
     rt: &R,
     alloc: Global,
@@ -31,7 +31,7 @@ pub fn text_of_parts<R: Threads + Sync>(
     ensures { IfOk result (λ pieces. (header : List ℕ) (tiles : List (List ℕ)) → ArePartsOf plan.now.plan bound.now header tiles maps.items
         → IsAnswer plan.now.plan (records_of (header ++ concat tiles)) (joined pieces.items)) }
 {
-    match table_text(rt, alloc, plan, bound, maps, FEWEST_GROUPS) {
+    match table_text(rt, alloc, plan, bound, maps) {
         Ok(pieces) => Ok(pieces),
         Err(why) => Err(why),
     }

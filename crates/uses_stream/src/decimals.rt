@@ -72,38 +72,38 @@ const ROWS: [Row; 18] = [
         "--agg sum:w --decimals price=2",
         PRICES,
         1,
-        ": row 1: column \"w\" is not an integer: \"0.125\"; see --decimals\n",
+        ": row 1 (line 2): column \"w\" is not an integer: \"0.125\"; see --decimals\n",
     ),
     (
         "--agg sum:price --decimals 0",
         PRICES,
         1,
-        ": row 1: column \"price\" is not an integer: \"1.50\"; see --decimals\n",
+        ": row 1 (line 2): column \"price\" is not an integer: \"1.50\"; see --decimals\n",
     ),
     // what doesn't fit
     (
         "--agg sum:w --decimals 2",
         PRICES,
         1,
-        ": row 1: column \"w\" is not a decimal with at most 2 places: \"0.125\"\n",
+        ": row 1 (line 2): column \"w\" is not a decimal with at most 2 places: \"0.125\"\n",
     ),
     (
         "--agg sum:price --decimals 1",
         PRICES,
         1,
-        ": row 1: column \"price\" is not a decimal with at most 1 place: \"1.50\"\n",
+        ": row 1 (line 2): column \"price\" is not a decimal with at most 1 place: \"1.50\"\n",
     ),
     (
         "--agg count --where w>0 --decimals w=2",
         PRICES,
         1,
-        ": row 1: filter column \"w\" is not a decimal with at most 2 places: \"0.125\"\n",
+        ": row 1 (line 2): filter column \"w\" is not a decimal with at most 2 places: \"0.125\"\n",
     ),
     (
         "--agg sum:v --decimals 2",
         "v\n92233720368547758.08\n",
         1,
-        ": row 1: column \"v\" is not a decimal with at most 2 places: \"92233720368547758.08\"\n",
+        ": row 1 (line 2): column \"v\" is not a decimal with at most 2 places: \"92233720368547758.08\"\n",
     ),
     // words that are no query
     (

@@ -9,7 +9,7 @@ mod faults;
 #[cfg(test)]
 mod filters;
 #[cfg(test)]
-mod ranges;
+mod lines;
 #[cfg(test)]
 mod shares;
 #[cfg(test)]

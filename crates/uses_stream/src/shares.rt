@@ -46,7 +46,7 @@ fn shared_groups<R: Threads + Wait + Sync>(
 }
 
 /// A whole text as one window.
-pub(crate) fn whole(alloc: Global, text: &[u8]) -> Result<Window, Fail> {
+fn whole(alloc: Global, text: &[u8]) -> Result<Window, Fail> {
     let mut source = MemSource::new(Vec::from_slice(alloc, text)?, text.len(), Vec::new(alloc));
     let mut window = Window::new(alloc);
     match window.fill(&mut source, text.len().saturating_add(1)) {

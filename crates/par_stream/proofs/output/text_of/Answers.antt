@@ -1,7 +1,7 @@
 use Rattle.std.proofs.Common.{IfOk, subst, sym}
 use Rattle.par_stream.specs.Answers.{AnswersGathered}
-use Rattle.par_stream.specs.Gathering.{AreGathered}
-use Rattle.par_stream.specs.declared.gathered.Gathered.{Gathered}
+use Rattle.stream_groups.specs.Gathering.{AreGathered}
+use Rattle.stream_groups.specs.declared.gathered.Gathered.{Gathered}
 use Rattle.par_stream.proofs.output.text_of.Goals as goal
 
 pub near_text-requires-clause-rows : goal.near_text-requires-clause-rows

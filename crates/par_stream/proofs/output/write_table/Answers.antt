@@ -3,9 +3,9 @@ use Rattle.std.specs.Global.{Vec}
 use Rattle.std.specs.Io.KnownBytes.{Appends}
 use Rattle.result_text.specs.Pieces.{joined}
 use Rattle.par_stream.specs.Answers.{IsTableText}
-use Rattle.par_stream.specs.Reading.{AreGroupsOver}
-use Rattle.par_stream.specs.declared.stop.Stop.{Stop}
-use Rattle.par_stream.specs.declared.stop.Stop.TheVariants as stop
+use Rattle.stream_groups.specs.Reading.{AreGroupsOver}
+use Rattle.stream_groups.specs.declared.stop.Stop.{Stop}
+use Rattle.stream_groups.specs.declared.stop.Stop.TheVariants as stop
 use Rattle.par_stream.proofs.Tables.{IfErr-each, part_written, table_written}
 use Rattle.par_stream.proofs.output.write_table.Goals as goal
 

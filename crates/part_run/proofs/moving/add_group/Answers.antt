@@ -3,7 +3,7 @@ use Rattle.std.proofs.lemmas.Result.{on_ok_weaker}
 use Rattle.par_model.specs.declared.state.AggState.{AggState}
 use Rattle.partial_agg.specs.Groups.{added}
 use Rattle.partial_agg.specs.declared.groups.Group.{Group}
-use Rattle.split_run.proofs.Parting.{no_group, read_key, read_state}
+use Rattle.part_run.proofs.Parting.{no_group, read_key, read_state}
 use Rattle.part_run.proofs.moving.add_group.Goals as goal
 
 -- what was read

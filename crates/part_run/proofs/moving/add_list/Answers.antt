@@ -2,7 +2,7 @@ use Rattle.std.proofs.Common.{◌<◌, ◌∙◌, ap, arith, length, slice_index
 use Rattle.std.proofs.lemmas.Bool.{eq-eqb, ne_eqb}
 use Rattle.par_model.specs.declared.state.AggState.{AggState}
 use Rattle.row_lists.specs.Parts.{part_of}
-use Rattle.split_run.proofs.Parting.{added_next, no_group, passed_next}
+use Rattle.part_run.proofs.Parting.{added_next, no_group, passed_next}
 use Rattle.part_run.proofs.Lending.{part_at}
 use Rattle.part_run.proofs.moving.add_list.Goals as goal
 use Rattle.part_run.proofs.moving.add_list.Goals.{then-parts-at+in_ok-add_group, else-parts-at}

@@ -1,4 +1,0 @@
-use Rattle.par_stream.proofs.gathered.add_near.Goals as goal
-
-pub returns-clause-rows : goal.returns-clause-rows
-returns-clause-rows g c = c.in-Ok.ensures.shared

@@ -1,0 +1,201 @@
+//! The windows of a source: how one is filled, and how the first is parted from its header.
+
+ghost use Rattle.std.specs.Prelude.{◌≡◌, ◌<◌, ◌≤◌, ◌+◌, ◌^◌, ◌++◌, ◌∷◌, ◌⊎◌, [], ℕ, List, Option, Err, IfErr, IfOk, OnErr, OnOk, length, string_bytes};
+ghost use Rattle.csv_rows.specs.Cuts.{IsCut};
+ghost use Rattle.csv_rows.specs.Records.{record_at, records_of};
+ghost use Rattle.csv_rows.specs.declared.records.RowsAnswer.TheVariants as parsing;
+ghost use Rattle.par_io.specs.Faults.{Rose};
+ghost use Rattle.row_blocks.specs.Blocks.{Table};
+ghost use Rattle.split_run.specs.Pieces.{piece_records};
+ghost use Rattle.text_lines.specs.Feeds.{count_feeds};
+ghost use Rattle.stream_groups.specs.Begins.{IsLined};
+ghost use Rattle.stream_groups.specs.Reading.{HasHeader, HasPart, IsFilled, IsFirst, IsNotFilled, Reaches};
+ghost use Rattle.stream_groups.specs.Stops.{IsStopOfLong, IsStopOfWindow, SaysOfLong, Tells};
+ghost use Rattle.stream_groups.specs.declared.stop.Stop.TheVariants as stop;
+
+use crate::batch::MOST_FEEDS;
+use crate::place::place_of_long;
+use crate::stop::Stop;
+use csv_rows::{RowStore, RowsAnswer, rows};
+use par_io::Source;
+use row_windows::{Window, WindowAnswer, header_end};
+use std::alloc::{AllocError, Global};
+use std::sync::Wait;
+use text_lines::line_feeds;
+
+/// A window that begins with the header, whose record is beside it, whether it is the last, and how many line feeds come
+/// before its lines.
+#[derive(Drop)]
+pub(crate) struct First {
+    pub(crate) window: Window,
+    pub(crate) header: RowStore,
+    pub(crate) is_last: bool,
+    pub(crate) feeds: u64,
+}
+
+/// The line in which a record begins, and what is said of it.
+#[derive(Drop)]
+struct LongSaid {
+    line: u64,
+    said: String,
+}
+
+/// The first window that has a record.
+pub(crate) fn first_window<R: Wait, S: Source>(
+    rt: &R,
+    alloc: Global,
+    source: &mut S,
+    size: usize,
+) -> Result<First, Stop>
+    ensures header { IfOk result (λ f. HasHeader f.header f.window f.is_last) }
+    ensures reaches { IfOk result (λ f. Reaches (S.left source.old) (S.left source.new) (piece_records f.window) (f.feeds + count_feeds f.window.lines) f.window.rest f.is_last) }
+    ensures part { IfOk result (λ f. 0 < length f.window.lines → HasPart (S.left source.old) (S.left source.new) (record_at f.header 0 ∷ []) f.feeds (f.window ∷ []) f.window.rest) }
+    ensures lined { IfOk result (λ f. IsLined f.window) }
+    ensures few { IfOk result (λ f. f.feeds ≤ 2 ^ 60) }
+    ensures why { IfErr result (λ why. (query : _) → Tells query (S.left source.old) why) }
+    ensures read_fault { IfErr result (λ why. why ≡ stop.ReadFault → Rose (S.faults source.old) (S.faults source.new)) }
+    ensures faults { S.faults source.old ≤ S.faults source.new }
+    ensures no_write { IfErr result (λ why. (why ≡ stop.WriteFault) → ⊥) }
+{
+    let mut window = Window::new(alloc);
+    let mut feeds = 0;
+    for _ in rt.forever() {
+        let is_last = match fill(&mut window, source, size) {
+            Ok(is_last) => is_last,
+            Err(why) => return Err(stop_of_window(alloc, why, 0, feeds, window.rest())),
+        };
+        match part_header(alloc, &mut window) {
+            Ok(header) => return first_of(window, header, is_last, feeds),
+            Err(RowsAnswer::NoHeader) if is_last => return Err(Stop::NoHeader),
+            Err(RowsAnswer::NoHeader) => {}
+            Err(_) => return Err(Stop::Memory),
+        }
+        feeds = more_feeds(feeds, window.lines())?;
+        window = behind(alloc, &window)?;
+    }
+    unreachable!()
+}
+
+/// The first window that has a record, which is the header's. So many line feeds come before that one's line.
+fn first_of(window: Window, header: RowStore, is_last: bool, feeds: u64) -> Result<First, Stop>
+    requires { feeds ≤ 2 ^ 60 }
+    ensures first { IfOk result (IsFirst window header is_last feeds) }
+    ensures why { IfErr result (λ why. why ≡ stop.Memory) }
+{
+    let feeds = more_feeds(feeds, window.header())?;
+    Ok(First {
+        window,
+        header,
+        is_last,
+        feeds,
+    })
+}
+
+/// So many line feeds and those of some bytes, unless they are too many.
+pub(crate) fn more_feeds(feeds: u64, bytes: &[u8]) -> Result<u64, AllocError>
+    requires { feeds ≤ 2 ^ 60 }
+    ensures more { IfOk result (λ more. more ≡ feeds + count_feeds bytes.now) }
+    ensures few { IfOk result (λ more. more ≤ 2 ^ 60) }
+{
+    let count = line_feeds(bytes);
+    let more = feeds + count;
+    if more > MOST_FEEDS {
+        return Err(AllocError);
+    }
+    Ok(more)
+}
+
+/// A window that begins as the one behind another.
+fn behind(alloc: Global, before: &Window) -> Result<Window, Stop>
+    ensures header { IfOk result (λ next. next.header ≡ before.now.header) }
+    ensures lines { IfOk result (λ next. next.lines ≡ []) }
+    ensures rest { IfOk result (λ next. next.rest ≡ before.now.rest) }
+    ensures why { IfErr result (λ why. why ≡ stop.Memory) }
+{
+    let mut next = Window::new(alloc);
+    next.follow(before)?;
+    Ok(next)
+}
+
+/// Fills a window, and says whether it is the last.
+pub(crate) fn fill<S: Source>(
+    window: &mut Window,
+    source: &mut S,
+    size: usize,
+) -> Result<bool, WindowAnswer>
+    requires { window.old.lines ≡ [] }
+    ensures filled { IfOk result (IsFilled (S.left source.old) (S.left source.new) window.old window.new) }
+    ensures why { IfErr result (IsNotFilled (S.left source.old) (S.left source.new) (S.faults source.old) (S.faults source.new) window.old window.new) }
+    ensures faults { S.faults source.old ≤ S.faults source.new }
+{
+    window.fill(source, size)
+}
+
+/// The reason for a window that was not filled, before which there are so many records and line feeds: what was read of it,
+/// if a record is too long, is this text.
+pub(crate) fn stop_of_window(
+    alloc: Global,
+    why: WindowAnswer,
+    row: u64,
+    feeds: u64,
+    text: &[u8],
+) -> Stop
+    requires { feeds ≤ 2 ^ 60 }
+    ensures { IsStopOfWindow why row feeds text.now result }
+{
+    match why {
+        WindowAnswer::ReadFault => Stop::ReadFault,
+        WindowAnswer::LongRecord => stop_of_long(alloc, row, feeds, text),
+        WindowAnswer::Memory => Stop::Memory,
+    }
+}
+
+/// The reason that a record is too long, or out of memory.
+fn stop_of_long(alloc: Global, row: u64, feeds: u64, text: &[u8]) -> Stop
+    requires { feeds ≤ 2 ^ 60 }
+    ensures { IsStopOfLong row feeds text.now result ⊎ (result ≡ stop.Memory) }
+{
+    match long_says(alloc, feeds, text) {
+        Ok(place) => Stop::LongRecord(row, place.line, place.said),
+        Err(AllocError) => Stop::Memory,
+    }
+}
+
+/// The line in which a record begins that is too long, and what is said of it.
+fn long_says(alloc: Global, feeds: u64, text: &[u8]) -> Result<LongSaid, AllocError>
+    requires { feeds ≤ 2 ^ 60 }
+    ensures { IfOk result (λ long. SaysOfLong feeds text.now long.line (string_bytes long.said)) }
+{
+    let place = place_of_long(alloc, text, feeds)?;
+    let mut said = String::from_str(alloc, "longer than 67108864 bytes")?;
+    said.push_str(place.quote.as_str())?;
+    Ok(LongSaid {
+        line: place.line,
+        said,
+    })
+}
+
+/// Makes the line of the header, which the window's lines begin with, that of the windows behind it, and gives its record.
+fn part_header(alloc: Global, window: &mut Window) -> Result<RowStore, RowsAnswer>
+    requires none { window.old.header ≡ [] }
+    ensures one { IfOk result (λ header. length header ≡ 1) }
+    ensures record { IfOk result (λ header. header ≡ records_of window.new.header) }
+    ensures first { OnOk result ((more : Table) × (records_of window.old.lines ≡ records_of window.new.header ++ more)) }
+    ensures same { OnOk result (window.new.header ++ window.new.lines ≡ window.old.lines) }
+    ensures cut { OnOk result (IsCut window.old.lines → IsCut window.new.header) }
+    ensures front { OnOk result (0 < length window.new.lines → IsCut window.new.header) }
+    ensures lined { OnOk result (IsLined window.new) }
+    ensures rest { window.new.rest ≡ window.old.rest }
+    ensures err { OnErr result (window.new ≡ window.old) }
+    ensures no_header { result ≡ Err parsing.NoHeader → records_of window.old.lines ≡ [] }
+{
+    let lines = window.table();
+    let at = header_end(lines).unwrap_or(lines.len());
+    match rows(alloc, &lines[..at]) {
+        Ok(header) => {
+            window.set_header(at);
+            Ok(header)
+        }
+        Err(why) => Err(why),
+    }
+}

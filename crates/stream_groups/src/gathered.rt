@@ -1,0 +1,178 @@
+//! The groups of all rows so far, in maps of the participants or, where they are many, in maps of the parts of their keys.
+
+ghost use Rattle.std.specs.Prelude.{◌≡◌, ◌<◌, ◌≤◌, ◌^◌, IfErr, IfOk, length, min};
+ghost use Rattle.std.specs.Bool.{OnTrue};
+ghost use Rattle.part_run.specs.Waiting.{participants};
+ghost use Rattle.split_run.specs.Causes.{IsFirstOfAll, IsLow};
+ghost use Rattle.split_run.specs.Hands.{most};
+ghost use Rattle.split_run.specs.Pieces.{HaveColumns, rows_of};
+ghost use Rattle.stream_groups.specs.Gathering.{TakesBatch, participants_of};
+ghost use Rattle.stream_groups.specs.declared.gathered.Gathered.TheVariants as kept;
+
+use par_model::BoundPlan;
+use part_run::Parts;
+use partial_agg::{BlockAnswer, GroupMap};
+use row_windows::Window;
+use split_run::add_pieces;
+use std::alloc::{AllocError, Global};
+use std::sync::Wait;
+use std::thread::Threads;
+
+/// Keys are parted when a participant has a group for so many bytes of a batch: 16,384 groups by the program.
+const BYTES_FOR_GROUP: usize = 256;
+
+/// But only if the batch had fewer rows for each new group.
+const FEWEST_ROWS: u64 = 4;
+
+/// The rows that wait are grouped when they have the bytes of so many batches: 16 MiB by the program.
+const MOST_BATCHES: usize = 4;
+
+/// But only if they have so many bytes for each group that there is.
+const BYTES_EACH: usize = 32;
+
+/// The groups of all rows so far: in maps of the participants, which share the rows, or in maps of the parts of the keys.
+#[derive(Drop)]
+pub enum Gathered {
+    Near(Vec<GroupMap>),
+    Parted(Parts),
+}
+
+impl Gathered {
+    /// How many groups there are at least.
+    pub(crate) fn groups(&self) -> u64 {
+        match self {
+            Gathered::Near(maps) => most_groups(maps) as u64,
+            Gathered::Parted(parts) => parts.groups(),
+        }
+    }
+
+    /// Adds the rows of the pieces of a batch, which has about this many bytes, and gives their number. If a row is refused
+    /// the groups are lost.
+    pub(crate) fn add_pieces<R: Threads + Wait + Sync>(
+        self,
+        rt: &R,
+        alloc: Global,
+        pieces: &[Window],
+        bound: &BoundPlan,
+        size: usize,
+    ) -> Result<(Gathered, u64), BlockAnswer>
+        requires some { 0 < participants_of self }
+        requires few { participants_of self < 2 ^ 32 }
+        requires pieces { length pieces.now ≤ 64 }
+        requires columns { HaveColumns bound.now pieces.now }
+        ensures rows { IfOk result (λ r. TakesBatch bound.now pieces.now self r.0) }
+        ensures many { IfOk result (λ r. participants_of r.0 ≡ participants_of self) }
+        ensures count { IfOk result (λ r. r.1 ≡ min (length (rows_of pieces.now)) most) }
+        ensures cause { IfErr result (IsFirstOfAll bound.now pieces.now) }
+        ensures low { IfErr result IsLow }
+    {
+        match self {
+            Gathered::Near(maps) => add_near(rt, alloc, pieces, bound, maps, size),
+            Gathered::Parted(parts) => add_parted(rt, alloc, pieces, bound, parts, size),
+        }
+    }
+}
+
+/// Adds the rows to the maps of the participants, and parts their keys if the groups are many by then.
+fn add_near<R: Threads + Wait + Sync>(
+    rt: &R,
+    alloc: Global,
+    pieces: &[Window],
+    bound: &BoundPlan,
+    maps: Vec<GroupMap>,
+    size: usize,
+) -> Result<(Gathered, u64), BlockAnswer>
+    requires some { 0 < length maps.items }
+    requires few { length maps.items < 2 ^ 32 }
+    requires pieces { length pieces.now ≤ 64 }
+    requires columns { HaveColumns bound.now pieces.now }
+    ensures rows { IfOk result (λ r. TakesBatch bound.now pieces.now (kept.Near maps) r.0) }
+    ensures many { IfOk result (λ r. participants_of r.0 ≡ length maps.items) }
+    ensures count { IfOk result (λ r. r.1 ≡ min (length (rows_of pieces.now)) most) }
+    ensures cause { IfErr result (IsFirstOfAll bound.now pieces.now) }
+    ensures low { IfErr result IsLow }
+{
+    let before = all_groups(&maps);
+    let (maps, more) = match add_pieces(rt, alloc, pieces, bound, maps) {
+        Ok(done) => done,
+        Err(why) => return Err(why),
+    };
+    if may_part(bound, &maps) && are_many(&maps, before, more, size) {
+        let Ok(parts) = Parts::begin(rt, alloc, maps) else {
+            return Err(BlockAnswer::Memory);
+        };
+        return Ok((Gathered::Parted(parts), more));
+    }
+    Ok((Gathered::Near(maps), more))
+}
+
+/// Puts the rows into lists by their parts, and adds all rows that wait to the maps of the parts if they are many.
+fn add_parted<R: Threads + Wait + Sync>(
+    rt: &R,
+    alloc: Global,
+    pieces: &[Window],
+    bound: &BoundPlan,
+    parts: Parts,
+    size: usize,
+) -> Result<(Gathered, u64), BlockAnswer>
+    requires some { 0 < participants parts }
+    requires few { participants parts < 2 ^ 32 }
+    requires pieces { length pieces.now ≤ 64 }
+    requires columns { HaveColumns bound.now pieces.now }
+    ensures rows { IfOk result (λ r. TakesBatch bound.now pieces.now (kept.Parted parts) r.0) }
+    ensures many { IfOk result (λ r. participants_of r.0 ≡ participants parts) }
+    ensures count { IfOk result (λ r. r.1 ≡ min (length (rows_of pieces.now)) most) }
+    ensures cause { IfErr result (IsFirstOfAll bound.now pieces.now) }
+    ensures low { IfErr result IsLow }
+{
+    let (mut parts, more) = match parts.add_pieces(rt, alloc, pieces, bound) {
+        Ok(done) => done,
+        Err(why) => return Err(why),
+    };
+    if !wait_long(&parts, size) {
+        return Ok((Gathered::Parted(parts), more));
+    }
+    match parts.group(rt) {
+        Ok(()) => Ok((Gathered::Parted(parts), more)),
+        Err(AllocError) => Err(BlockAnswer::Memory),
+    }
+}
+
+/// Whether keys of these maps can be parted, and may gain by it: they have columns, and there are two participants or more.
+pub fn may_part(bound: &BoundPlan, maps: &[GroupMap]) -> bool
+    ensures columns { OnTrue result (0 < length bound.now.groups) }
+    ensures some { OnTrue result (0 < length maps.now) }
+{
+    maps.len() >= 2 && !bound.group_columns().is_empty()
+}
+
+/// Whether groups are so many that parts pay, after a batch of about this many bytes and of so many rows: before it there
+/// were so many groups in all maps.
+fn are_many(maps: &[GroupMap], before: usize, rows: u64, size: usize) -> bool {
+    let new = all_groups(maps).saturating_sub(before) as u64;
+    most_groups(maps) >= size / BYTES_FOR_GROUP && rows < new.saturating_mul(FEWEST_ROWS)
+}
+
+/// Whether so many rows wait that they are to be grouped.
+fn wait_long(parts: &Parts, size: usize) -> bool {
+    let each = (parts.groups() as usize).saturating_mul(BYTES_EACH);
+    parts.waiting() > size.saturating_mul(MOST_BATCHES).max(each)
+}
+
+/// How many groups some maps have together.
+pub fn all_groups(maps: &[GroupMap]) -> usize {
+    let mut count = 0usize;
+    for map in maps {
+        count = count.saturating_add(map.len());
+    }
+    count
+}
+
+/// How many groups the map has that has most of them.
+fn most_groups(maps: &[GroupMap]) -> usize {
+    let mut most = 0;
+    for map in maps {
+        most = map.len().max(most);
+    }
+    most
+}

@@ -1,0 +1,32 @@
+//! The groups of a source of comma-separated bytes of any length, or why there are none.
+//!
+//! The bytes are read window by window, whole records each. The windows of a batch are shared out to the participants, and
+//! if there are workers the caller's thread fills the next batch meanwhile. Each participant has a map of the groups of its
+//! rows; when these are many, and there are two participants or more, the keys are parted, and from then on each part has one
+//! map (`part_run`). Only the groups, two batches, the rows of one window a participant, and with parts some rows that wait
+//! for theirs, are in memory.
+//!
+//! The first fault ends it: a read that failed, no header, a column that it lacks or has twice, a record that is too long,
+//! and a refused row, as they come on the way through the input. A [`Stop`] says which, and has a status and a line: a row
+//! is named by its number and by the line in which it begins, as an editor counts lines.
+
+#![tactic(auto)]
+
+mod adding;
+mod batch;
+mod filling;
+mod gathered;
+mod place;
+mod progress;
+mod reading;
+mod refused;
+mod rows;
+mod stop;
+mod twice;
+mod words;
+
+pub use gathered::{Gathered, all_groups, may_part};
+pub use progress::{Progress, SoFar, Untold};
+pub use reading::{ReadGroups, read_groups};
+pub use stop::{LONG_RECORD, RefusedRow, Stop};
+pub use words::read_words;

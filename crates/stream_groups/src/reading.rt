@@ -1,0 +1,197 @@
+//! The groups of a source, batch by batch.
+
+ghost use Rattle.std.specs.Prelude.{◌≡◌, ◌<◌, ◌≤◌, ◌+◌, ◌^◌, ◌++◌, ◌∷◌, ◌⊎◌, [], ℕ, List, Option, IfErr, IfOk, false, length, true};
+ghost use Rattle.csv_rows.specs.Records.{record_at};
+ghost use Rattle.par_io.specs.Faults.{Rose};
+ghost use Rattle.row_blocks.specs.Blocks.{Table};
+ghost use Rattle.text_lines.specs.Feeds.{count_feeds};
+ghost use Rattle.stream_groups.specs.Begins.{IsLined};
+ghost use Rattle.stream_groups.specs.Reading.{AreGroupsOver, HasHeader, HasPart, HasRows, IsBound, IsStream, Reaches};
+ghost use Rattle.split_run.specs.Pieces.{piece_records};
+ghost use Rattle.stream_groups.specs.Stops.{Tells};
+ghost use Rattle.stream_groups.specs.declared.stop.Stop.TheVariants as stop;
+
+use crate::adding::{Added, add_and_fill, add_batch};
+use crate::batch::Batch;
+use crate::filling::{First, first_window, stop_of_window};
+use crate::gathered::Gathered;
+use crate::progress::{Progress, SoFar};
+use crate::rows::bind;
+use crate::stop::Stop;
+use csv_rows::RowStore;
+use par_io::Source;
+use par_model::BoundPlan;
+use plan_spec::Plan;
+use split_run::begin;
+use std::alloc::Global;
+use std::sync::Wait;
+use std::thread::Threads;
+
+/// The groups of all rows and their number, the line of the header, or its lines, and the plan over its columns.
+#[derive(Drop)]
+pub struct ReadGroups {
+    pub bound: BoundPlan,
+    pub header: Vec<u8>,
+    pub rows: u64,
+    pub gathered: Gathered,
+}
+
+/// What there is before the rows of a batch are added: that batch, whether it is the last, another for the next, the
+/// header, and what was added so far.
+#[derive(Drop)]
+pub(crate) struct Stream {
+    pub(crate) batch: Batch,
+    pub(crate) is_last: bool,
+    pub(crate) spare: Batch,
+    pub(crate) header: RowStore,
+    pub(crate) added: Added,
+}
+
+/// The most bytes of the first window, unless a record is longer: so a wrong name is answered early, even if the source is slow.
+const FIRST_BYTES: usize = 4096;
+
+/// Reads the whole source, in batches of this many bytes or more, and reports how far it has come.
+pub fn read_groups<R: Threads + Wait + Sync, S: Source, P: Progress>(
+    rt: &R,
+    alloc: Global,
+    plan: &Plan,
+    source: &mut S,
+    size: usize,
+    progress: &mut P,
+) -> Result<ReadGroups, Stop>
+    ensures groups { IfOk result (AreGroupsOver plan.now (S.left source.old)) }
+    ensures why { IfErr result (Tells plan.now (S.left source.old)) }
+    ensures read_fault { IfErr result (λ why. why ≡ stop.ReadFault → Rose (S.faults source.old) (S.faults source.new)) }
+    ensures no_write { IfErr result (λ why. (why ≡ stop.WriteFault) → ⊥) }
+{
+    let first = first_window(rt, alloc, source, size.min(FIRST_BYTES))?;
+    let bound = bind(alloc, plan, &first.header)?;
+    let mut stream = open(alloc, plan, &bound, first)?;
+    let mut bytes = 0u64;
+    for _ in rt.forever() {
+        if stream.is_last {
+            return end(rt, alloc, plan, bound, size, stream);
+        }
+        bytes = bytes.saturating_add(stream.batch.bytes());
+        stream = next_window(rt, alloc, plan, &bound, source, size, stream)?;
+        progress.tell(so_far(bytes, &stream.added));
+    }
+    unreachable!()
+}
+
+/// How far the reading has come if the batches that were added have this many bytes.
+fn so_far(bytes: u64, added: &Added) -> SoFar {
+    SoFar {
+        bytes,
+        rows: added.count,
+        groups: added.gathered.groups(),
+    }
+}
+
+/// Makes the maps of the participants, before any row.
+fn open(alloc: Global, plan: &Plan, bound: &BoundPlan, first: First) -> Result<Stream, Stop>
+    requires header { HasHeader first.header first.window first.is_last }
+    requires bound { IsBound plan.now (record_at first.header 0) bound.now }
+    requires lined { IsLined first.window }
+    requires few { first.feeds ≤ 2 ^ 60 }
+    ensures stream { IfOk result (IsStream plan.now bound.now) }
+    ensures rows { IfOk result (λ s. (from left : Option (List ℕ)) → Reaches from left (piece_records first.window) (first.feeds + count_feeds first.window.lines) first.window.rest first.is_last
+        → (0 < length first.window.lines → HasPart from left (record_at first.header 0 ∷ []) first.feeds (first.window ∷ []) first.window.rest) → HasRows bound.now from left s []) }
+    ensures why { IfErr result (λ why. why ≡ stop.Memory) }
+{
+    let _of = bound;
+    let First {
+        window,
+        header,
+        is_last,
+        feeds,
+    } = first;
+    let maps = begin(alloc, plan.workers() + 1)?;
+    Ok(Stream {
+        batch: Batch::of_window(alloc, window, feeds)?,
+        is_last,
+        spare: Batch::new(alloc),
+        header,
+        added: Added {
+            gathered: Gathered::Near(maps),
+            count: 0,
+        },
+    })
+}
+
+/// Adds the rows of the batch at hand, and fills the one after it.
+fn next_window<R: Threads + Wait + Sync, S: Source>(
+    rt: &R,
+    alloc: Global,
+    plan: &Plan,
+    bound: &BoundPlan,
+    source: &mut S,
+    size: usize,
+    stream: Stream,
+) -> Result<Stream, Stop>
+    requires stream { IsStream plan.now bound.now stream }
+    requires more { stream.is_last ≡ false }
+    ensures stream { IfOk result (IsStream plan.now bound.now) }
+    ensures rows { IfOk result (λ s. (from : Option (List ℕ)) (rows : Table) → HasRows bound.now from (S.left source.old) stream rows
+        → (all : Table) × HasRows bound.now from (S.left source.new) s all) }
+    ensures why { IfErr result (λ why. (from : Option (List ℕ)) (rows : Table) → HasRows bound.now from (S.left source.old) stream rows → Tells plan.now from why) }
+    ensures read_fault { IfErr result (λ why. why ≡ stop.ReadFault → Rose (S.faults source.old) (S.faults source.new)) }
+    ensures faults { S.faults source.old ≤ S.faults source.new }
+    ensures no_write { IfErr result (λ why. (why ≡ stop.WriteFault) → ⊥) }
+{
+    let Stream {
+        batch,
+        is_last: _,
+        mut spare,
+        header,
+        mut added,
+    } = stream;
+    spare.follow(&batch)?;
+    let filled = add_and_fill(
+        rt, alloc, plan, bound, &batch, &mut added, &mut spare, source, size,
+    )?;
+    let is_last = match filled {
+        Ok(is_last) => is_last,
+        Err(why) => {
+            let text = spare.next.rest();
+            return Err(stop_of_window(alloc, why, added.count + 1, spare.feeds, text));
+        }
+    };
+    Ok(Stream {
+        batch: spare,
+        is_last,
+        spare: batch,
+        header,
+        added,
+    })
+}
+
+/// Adds the rows of the last batch.
+fn end<R: Threads + Wait + Sync>(
+    rt: &R,
+    alloc: Global,
+    plan: &Plan,
+    bound: BoundPlan,
+    size: usize,
+    stream: Stream,
+) -> Result<ReadGroups, Stop>
+    requires stream { IsStream plan.now bound stream }
+    requires last { stream.is_last ≡ true }
+    ensures groups { IfOk result (λ r. (from left : Option (List ℕ)) (rows : Table) → HasRows bound from left stream rows → AreGroupsOver plan.now from r) }
+    ensures why { IfErr result (λ why. (from left : Option (List ℕ)) (rows : Table) → HasRows bound from left stream rows → Tells plan.now from why) }
+    ensures kind { IfErr result (λ why. ((why ≡ stop.ReadFault) ⊎ (why ≡ stop.WriteFault)) → ⊥) }
+{
+    let Stream {
+        batch,
+        mut added,
+        ..
+    } = stream;
+    add_batch(rt, alloc, plan, &bound, &batch, &mut added, size)?;
+    let header = Vec::from_slice(alloc, batch.next.header())?;
+    Ok(ReadGroups {
+        bound,
+        header,
+        rows: added.count,
+        gathered: added.gathered,
+    })
+}
