@@ -186,6 +186,10 @@ def one_text(rng, program, counts):
     for source in range(sources):
         rows, lines = source_of(rng, names, end, bad and source == sources - 1)
         size = len(header) + sum(map(len, lines))
+        words = ["partial", f"--source={source}/{sources}", f"--workers={rng.randint(0, 3)}", *plan.words()]
+        made = program.run(words, header + b"".join(lines))
+        if made != (0, states_of(plan, header, rows, (source, 0, size, size), sources), b""):
+            fail("another file of a source", words, made[0], made[2].decode(), header + b"".join(lines[:3]))
         cuts = sorted(rng.sample(range(1, len(lines)), min(rng.randint(0, 7), max(0, len(lines) - 1)))) if lines else []
         at, start = 0, 0
         for cut in cuts + [len(lines)]:

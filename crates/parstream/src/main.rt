@@ -15,6 +15,7 @@ use par_io::{StdSink, StdSource};
 use par_stream::{NO_MEMORY, WINDOW_BYTES, say_usage, stream_table};
 use progress::ProgressLine;
 use state_forms::{form_of, run_form};
+use state_partial::{is_partial, partial_states};
 use std::env::Env;
 use std::io::ErrorKind;
 use std::process::ExitCode;
@@ -51,6 +52,23 @@ fn main(rt: HostRuntime) -> ExitCode {
     if let Some(form) = form_of(words.as_slice()) {
         let mut source = StdSource::new(rt.stdin());
         let status = run_form(&rt, rt.alloc(), form, &mut source, &mut out, &mut err);
+        return ExitCode::from(status);
+    }
+    if is_partial(words.as_slice()) {
+        let mut source = Peeked::new(StdSource::new(rt.stdin()));
+        if let Some(status) = refuse_input(&mut source, &mut err) {
+            return ExitCode::from(status);
+        }
+        let status = partial_states(
+            &rt,
+            rt.alloc(),
+            words.as_slice(),
+            &mut source,
+            &mut out,
+            &mut err,
+            WINDOW_BYTES,
+            &mut ProgressLine::new(&rt, rt.stderr()),
+        );
         return ExitCode::from(status);
     }
     if let Some(status) = refuse_words(rt.alloc(), words.as_slice(), &mut err) {
