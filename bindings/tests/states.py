@@ -111,7 +111,7 @@ def states_of(plan, header, rows, stretch, sources):
         groups = {}
     else:
         cover += number(0) + number(len(rows))
-    head = plan.head() + text(header) + number(sources) + cover + text(b"") + text(b"")
+    head = plan.head() + text(header.rstrip(b"\r\n")) + number(sources) + cover + text(b"") + text(b"")
     out = bytearray(b"parstream states 1\n" + section(head))
     blocks, block = [], bytearray()
     for key in sorted(groups):
