@@ -3,11 +3,15 @@
 #![tactic(auto)]
 
 #[cfg(test)]
+mod carried;
+#[cfg(test)]
 mod decimals;
 #[cfg(test)]
 mod faults;
 #[cfg(test)]
 mod filters;
+#[cfg(test)]
+mod parted;
 #[cfg(test)]
 mod shares;
 #[cfg(test)]

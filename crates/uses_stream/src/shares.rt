@@ -17,7 +17,7 @@ use std::test::Fail;
 use std::thread::Threads;
 
 /// The groups of all rows of some pieces, by this many participants, the caller's thread among them.
-fn shared_groups<R: Threads + Wait + Sync>(
+pub(crate) fn shared_groups<R: Threads + Wait + Sync>(
     rt: &R,
     alloc: Global,
     pieces: &[Window],
@@ -46,7 +46,7 @@ fn shared_groups<R: Threads + Wait + Sync>(
 }
 
 /// A whole text as one window.
-fn whole(alloc: Global, text: &[u8]) -> Result<Window, Fail> {
+pub(crate) fn whole(alloc: Global, text: &[u8]) -> Result<Window, Fail> {
     let mut source = MemSource::new(Vec::from_slice(alloc, text)?, text.len(), Vec::new(alloc));
     let mut window = Window::new(alloc);
     match window.fill(&mut source, text.len().saturating_add(1)) {
