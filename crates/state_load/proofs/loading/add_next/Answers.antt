@@ -45,6 +45,6 @@ returns-in-Ok-clause-shorter c =
     let did = c.in-Ok.ensures.read in
     after_front (preface_of c.in_ok-front.front.head) c.args.bytes.now c.in_ok-front.front.rest.now (body_bytes c.args.shape.now.kinds.now c.in_ok-front.front.at did.0) c.in-Ok.rest.now read.is did.2
 
-pub returns-in-Err-clause-refused : goal.returns-in-Err-clause-refused
-returns-in-Err-clause-refused c = λ m cover is.
+pub returns-clause-refused : goal.returns-clause-refused
+returns-clause-refused c = λ m cover is.
     cannot_go_on c.args.shape.now (subject_of c.args.whole) (keys_of c.args.range) m c.args.bytes.now c.in_ok-front.front c.in-Err.why c.in_ok-front.ensures.read (c.in-Err.ensures.refused m cover is)

@@ -14,13 +14,13 @@ returns-in-Err-check_whole-clause-refused c =
     let read = c.in-Ok.ensures.read in
     record { front = preface_of c.in-Ok.front.head; is_front = read.1; rest = c.in-Ok.front.rest.now; is = read.0; differs = inl c.in-Err-check_whole.ensures.refused }
 
-pub returns-in-Err-check_range-clause-written : goal.returns-in-Err-check_range-clause-written
-returns-in-Err-check_range-clause-written c = λ p rest is subject keys e.
+pub returns-clause-written : goal.returns-clause-written
+returns-clause-written c = λ p rest is subject keys e.
     let same = (c.in-Ok.ensures.written p rest is e).0 in
     absurd (same_range (keys_of c.args.range) (keys_of c.in-Ok.front.head.range) c.in-Err-check_range.why c.in-Err-check_range.ensures.refused (ap (λ (q : Preface). q.keys) same ∙ keys))
 
-pub returns-in-Err-check_range-clause-refused : goal.returns-in-Err-check_range-clause-refused
-returns-in-Err-check_range-clause-refused c =
+pub returns-clause-refused : goal.returns-clause-refused
+returns-clause-refused c =
     let read = c.in-Ok.ensures.read in
     record { front = preface_of c.in-Ok.front.head; is_front = read.1; rest = c.in-Ok.front.rest.now; is = read.0; differs = inr c.in-Err-check_range.ensures.refused }
 
