@@ -1,5 +1,5 @@
 -- What a participant has seen, and its own calls, begin with those before.
-use Rattle.std.proofs.Common.{◌≡◌, ◌⊎◌, ◌++◌, inl, inr, ℕ, List, [], ◌∷◌, Option, ap, sym, subst, ◌∙◌, append_assoc, append-nil}
+use Rattle.std.proofs.Common.{◌≡◌, ◌++◌, inl, inr, true, false, ℕ, List, [], ◌∷◌, Option, ap, sym, subst, ◌∙◌, append_assoc, append-nil}
 use mathlib.Core.Logic.{dite}
 use native.Mathlib.Decide.{ℕ_discrete}
 use Rattle.lock_book.specs.declared.view.Entry.{Entry}
@@ -103,11 +103,8 @@ module _ (a : Area) (p q : AreaPass) where
   pub requested_grew : (r : Request) → Requested a p q r → AreaGrew p q
   requested_grew (Got bytes) x = granted_grew bytes x.0 x.1
   requested_grew (Missed bytes wanted largest) x = refused_grew bytes wanted largest x
-  requested_grew (Gave bytes) x = by x.1
-    where
-      by : IsTakenBack a p q x.0 bytes ⊎ IsHandedBack a p q x.0 bytes → AreaGrew p q
-      by (inl y) = taken_grew x.0 bytes y
-      by (inr y) = handed_grew x.0 bytes y
+  requested_grew (Gave bytes true) x = taken_grew x.0 bytes x.1
+  requested_grew (Gave bytes false) x = handed_grew x.0 bytes x.1
 
 -- what a pass of the table shows, before and after
 pub record SightGrew {S C R : Type 0} (v w : Sight S C R) : Type 0 where

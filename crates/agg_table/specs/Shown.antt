@@ -7,7 +7,7 @@ use Rattle.lock_book.specs.History.{StartsWith}
 use Rattle.lock_book.specs.Shown.{mine_of, number_of, seen_of}
 use Rattle.size_classes.specs.Classes.{IsClass}
 use Rattle.dsa_area.specs.Shown.{IsArea, Belongs as AreaBelongs, callers_of as area_callers, number_of as area_number, pages_mine, pages_seen as pages_shown, pool_mine, pool_seen}
-use Rattle.dshash_parts.specs.Tables.{IsTable, Belongs as TableBelongs, callers_of as table_callers, key_words_of}
+use Rattle.dshash_parts.specs.Tables.{IsHome, IsTable, Belongs as TableBelongs, callers_of as table_callers, key_words_of}
 use Rattle.agg_table.specs.Calls.{Use}
 use Rattle.dshash_parts.specs.Done.{lacks}
 use Rattle.agg_table.specs.declared.part.HashPart.{HashPart}
@@ -25,10 +25,11 @@ number_at s = number_of s.table
 abbrev pub use_of : HashSeat → Use
 use_of s = record { turns = mine_of s.table; pages = pages_mine s.area }
 
--- the table and its area are in this region; its keys have 32 words; both have the same callers
+-- the table and its area are in this region; the table was made with it; its keys have 32 words; both have the same callers
 pub record IsPart (region : TableId) (p : HashPart) : Type 0 where
   pub area : IsArea region p.area
   pub table : IsTable region p.table
+  pub home : IsHome p.area p.table
   pub keys : key_words_of p.table ≡ 32
   pub callers : area_callers p.area ≡ table_callers p.table
 

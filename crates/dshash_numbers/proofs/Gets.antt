@@ -43,7 +43,7 @@ module _ {S C R : Type 0} (number item : ℕ) (key : List ℕ) (call : C) (reply
     frugal = record {
       moves = λ k to left h. absurd (let e = only _ h in cc);
       grants = λ bytes h. absurd (let e = only _ h in cc);
-      gifts = λ bytes h. absurd (let e = only _ h in cc);
+      gifts = λ bytes accepted h. absurd (let e = only _ h in cc);
       asks = omega arith;
       rounds = omega arith;
     };

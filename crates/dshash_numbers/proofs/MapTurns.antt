@@ -79,7 +79,7 @@ module _ {S C R : Type 0} (step : Option S → C → Option S × R) (n : ℕ) wh
   -- gifts to the area are no calls
   gifts-none : (es : List (Event S C R)) → AreGifts es → NoneMade es
   gifts-none [] h = tt
-  gifts-none (Asked (Gave bytes) ∷ es) h = gifts-none es h
+  gifts-none (Asked (Gave bytes accepted) ∷ es) h = gifts-none es h
   gifts-none (Asked (Got bytes) ∷ es) h = absurd h
   gifts-none (Asked (Missed bytes wanted largest) ∷ es) h = absurd h
   gifts-none (Turn number c r ∷ es) h = absurd h

@@ -11,7 +11,7 @@ use Rattle.dshash_core.specs.Cells.{KeyMap, partition_of}
 use Rattle.dshash_core.specs.Key.{hash_of}
 use Rattle.dshash_core.specs.Outcome.{changed}
 use Rattle.dshash_parts.specs.Promises.{CallMade, CallRefused}
-use Rattle.dshash_parts.specs.Tables.{Belongs, IsTable, callers_of, item_of, key_words_of, map_at}
+use Rattle.dshash_parts.specs.Tables.{Belongs, IsHome, IsTable, callers_of, item_of, key_words_of, map_at}
 use Rattle.dshash_scan.specs.Listings.{ListsTable}
 use Rattle.dshash_numbers.specs.Numbers.{after, stepped}
 use Rattle.dshash_numbers.specs.declared.number.NumberCall.{NumberCall}
@@ -25,6 +25,10 @@ pub record IsNumberTable (region : TableId) (t : NumberTable) : Type 0 where
   pub items : item_of t.table ≡ 280
   pub own : Belongs t.table t.pass
   pub alone : callers_of t.table ≡ 1
+
+-- the table was made with this area
+abbrev pub ComesFrom : Area → NumberTable → Type 0
+ComesFrom a t = IsHome a t.table
 
 -- the map of a partition
 abbrev pub map_of : NumberTable → ℕ → KeyMap ℕ

@@ -6,7 +6,7 @@ ghost use Rattle.dsa_area.specs.Shown.{Belongs as AreaBelongs, IsArea, number_of
 ghost use Rattle.dshash_core.specs.Key.{packed_key};
 ghost use Rattle.dshash_parts.specs.Opening.{Asks, IsNoTable};
 ghost use Rattle.dshash_parts.specs.Traces.{Got};
-ghost use Rattle.dshash_numbers.specs.Maps.{IsMade, IsNew, IsNumberTable, IsRefused, IsTotal};
+ghost use Rattle.dshash_numbers.specs.Maps.{ComesFrom, IsMade, IsNew, IsNumberTable, IsRefused, IsTotal};
 ghost use Rattle.dshash_numbers.specs.declared.number.NumberCall.TheVariants as verb;
 ghost use Rattle.dshash_numbers.specs.declared.table.TheConstants.{MOST_KEY_BYTES};
 
@@ -55,6 +55,7 @@ impl NumberTable {
         ensures area_own { AreaBelongs area.now apass.new }
         ensures area_caller { area_number apass.new ≡ area_number apass.old }
         ensures table { IfOk result (IsNumberTable r.now) }
+        ensures home { IfOk result (ComesFrom area.now) }
         ensures empty { IfOk result IsNew }
         ensures asked { IfOk result (λ _. Asks area.now apass.old apass.new (replicate 128 (Got 8))) }
         ensures refused { IfErr result (λ e. IsNoTable area.now apass.old apass.new e) }
@@ -79,9 +80,11 @@ impl NumberTable {
     ) -> Result<Option<u64>, NoSpace>
         requires table { IsNumberTable r.now self.old }
         requires area { IsArea r.now area.now }
+        requires home { ComesFrom area.now self.old }
         requires area_own { AreaBelongs area.now apass.old }
         requires short { length key.now ≤ MOST_KEY_BYTES }
         ensures table { IsNumberTable r.now self.new }
+        ensures home { ComesFrom area.now self.new }
         ensures area_own { AreaBelongs area.now apass.new }
         ensures area_caller { area_number apass.new ≡ area_number apass.old }
         ensures made { IfOk result (IsMade area.now self.old self.new apass.old apass.new (packed_key key.now) (verb.Put number)) }
@@ -96,6 +99,7 @@ impl NumberTable {
         requires table { IsNumberTable r.now self.old }
         requires short { length key.now ≤ MOST_KEY_BYTES }
         ensures table { IsNumberTable r.now self.new }
+        ensures home { (area : _) → ComesFrom area self.old → ComesFrom area self.new }
         ensures made { (area : _) (apass : _) → IsMade area self.old self.new apass apass (packed_key key.now) verb.Get result }
     {
         let Some(key) = pack_key(key) else {
@@ -117,9 +121,11 @@ impl NumberTable {
     ) -> Option<u64>
         requires table { IsNumberTable r.now self.old }
         requires area { IsArea r.now area.now }
+        requires home { ComesFrom area.now self.old }
         requires area_own { AreaBelongs area.now apass.old }
         requires short { length key.now ≤ MOST_KEY_BYTES }
         ensures table { IsNumberTable r.now self.new }
+        ensures home { ComesFrom area.now self.new }
         ensures area_own { AreaBelongs area.now apass.new }
         ensures area_caller { area_number apass.new ≡ area_number apass.old }
         ensures made { IsMade area.now self.old self.new apass.old apass.new (packed_key key.now) verb.Delete result }
@@ -142,9 +148,11 @@ impl NumberTable {
     ) -> Result<Option<u64>, NoSpace>
         requires table { IsNumberTable r.now self.old }
         requires area { IsArea r.now area.now }
+        requires home { ComesFrom area.now self.old }
         requires area_own { AreaBelongs area.now apass.old }
         requires short { length key.now ≤ MOST_KEY_BYTES }
         ensures table { IsNumberTable r.now self.new }
+        ensures home { ComesFrom area.now self.new }
         ensures area_own { AreaBelongs area.now apass.new }
         ensures area_caller { area_number apass.new ≡ area_number apass.old }
         ensures made { IfOk result (IsMade area.now self.old self.new apass.old apass.new (packed_key key.now) call) }
@@ -162,6 +170,7 @@ impl NumberTable {
     pub fn total<R: Wait>(&mut self, rt: &R, alloc: Global, r: &Region) -> Result<Total, AllocError>
         requires table { IsNumberTable r.now self.old }
         ensures table { IsNumberTable r.now self.new }
+        ensures home { (area : _) → ComesFrom area self.old → ComesFrom area self.new }
         ensures total { IfOk result (λ total. IsTotal self.old self.new total.count total.sum) }
     {
         let entries = list_all(rt, alloc, &self.table, r, &mut self.pass)?;

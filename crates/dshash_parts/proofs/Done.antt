@@ -1,5 +1,5 @@
 -- What the events of a call of the table add to the own calls of its passes.
-use Rattle.std.proofs.Common.{◌≡◌, ◌≤◌, ◌+◌, ◌/◌, ◌==◌, ◌⊎◌, ◌++◌, inl, inr, Bool, true, false, cond, ℕ, suc, List, [], ◌∷◌, Any, Option, map, refl, ap, sym, subst, ◌∙◌, arith, append_assoc, append-nil}
+use Rattle.std.proofs.Common.{◌≡◌, ◌≤◌, ◌+◌, ◌/◌, ◌==◌, ◌++◌, inl, inr, Bool, true, false, cond, ℕ, suc, List, [], ◌∷◌, Any, Option, map, refl, ap, sym, subst, ◌∙◌, arith, append_assoc, append-nil}
 use Rattle.std.specs.List.{flat_map, sum_by}
 use Rattle.std.proofs.lemmas.List.Concat.{flat_map-append}
 use Rattle.std.proofs.lemmas.List.Sums.{sum_by-append}
@@ -106,24 +106,21 @@ module _ {S C R : Type 0} where
   misses_among bytes wanted largest (Turn number call reply ∷ es) after = misses_among bytes wanted largest es after
   misses_among bytes wanted largest (Asked (Got b) ∷ es) after = misses_among bytes wanted largest es after
   misses_among bytes wanted largest (Asked (Missed b w l) ∷ es) after = omega arith
-  misses_among bytes wanted largest (Asked (Gave given) ∷ es) after = misses_among bytes wanted largest es after
+  misses_among bytes wanted largest (Asked (Gave given accepted) ∷ es) after = misses_among bytes wanted largest es after
 
 module _ {S C R : Type 0} (step : Option S → C → Option S × R) (a : Area) (n : ℕ) where
   one_lacks : (v w : Sight S C R) (e : Event S C R) → Makes step a n v w e → lacks (pages_mine v.area) + misses (e ∷ []) ≤ lacks (pages_mine w.area)
   one_lacks v w (Turn number call reply) h = let e = ap (λ (p : AreaPass). lacks (pages_mine p)) h.1 in omega (arith, e)
   one_lacks v w (Asked (Got bytes)) h = let e = granted_lacks a v.area w.area bytes h.0.0 h.0.1 in omega (arith, e)
   one_lacks v w (Asked (Missed bytes wanted largest)) h = let e = refused_lacks a v.area w.area bytes wanted largest h.0 in omega (arith, e)
-  one_lacks v w (Asked (Gave bytes)) h = by h.0.1
-    where
-      by : IsTakenBack a v.area w.area h.0.0 bytes ⊎ IsHandedBack a v.area w.area h.0.0 bytes → lacks (pages_mine v.area) + 0 ≤ lacks (pages_mine w.area)
-      by (inl x) = let e = taken_lacks a v.area w.area h.0.0 bytes x in omega (arith, e)
-      by (inr x) = let e = handed_lacks a v.area w.area h.0.0 bytes x in omega (arith, e)
+  one_lacks v w (Asked (Gave bytes true)) h = let e = taken_lacks a v.area w.area h.0.0 bytes h.0.1 in omega (arith, e)
+  one_lacks v w (Asked (Gave bytes false)) h = let e = handed_lacks a v.area w.area h.0.0 bytes h.0.1 in omega (arith, e)
 
   misses_front : (e : Event S C R) (es : List (Event S C R)) → misses (e ∷ es) ≡ misses (e ∷ []) + misses es
   misses_front (Turn number call reply) es = omega arith
   misses_front (Asked (Got bytes)) es = omega arith
   misses_front (Asked (Missed bytes wanted largest)) es = omega arith
-  misses_front (Asked (Gave bytes)) es = omega arith
+  misses_front (Asked (Gave bytes accepted)) es = omega arith
 
   pub all_lacks : (v w : Sight S C R) (es : List (Event S C R)) → Trace step a n v w es → lacks (pages_mine v.area) + misses es ≤ lacks (pages_mine w.area)
   all_lacks v w [] t = let e = ap (λ (s : Sight S C R). lacks (pages_mine s.area)) t in omega (arith, e)
@@ -134,7 +131,7 @@ module _ {S C R : Type 0} (step : Option S → C → Option S × R) (a : Area) (
 module _ {S C R : Type 0} where
   gifts_done : (k : ℕ) (es : List (Event S C R)) → AreGifts es → turns_at k es ≡ []
   gifts_done k [] h = refl
-  gifts_done k (Asked (Gave given) ∷ es) h = gifts_done k es h
+  gifts_done k (Asked (Gave given accepted) ∷ es) h = gifts_done k es h
   gifts_done k (Asked (Got bytes) ∷ es) h = absurd h
   gifts_done k (Asked (Missed bytes wanted largest) ∷ es) h = absurd h
   gifts_done k (Turn number call reply ∷ es) h = absurd h

@@ -18,7 +18,7 @@ use Rattle.dshash_parts.specs.Sweeps.{Swept, SweptAndGave, GaveBack}
 use Rattle.dshash_parts.specs.Rounds.{Underway}
 use Rattle.dshash_parts.proofs.Sizes.{turn_legal, grow_tells}
 use Rattle.dshash_parts.proofs.Sweeps.{trace_append}
-use Rattle.dshash_parts.proofs.Rounds.{gift, gift_among, grew_on, gift_trace, made_end, made_gave, call_made, item_end, item_refused, slice_end, stuck, slice_refused, got_item, all_grew}
+use Rattle.dshash_parts.proofs.Rounds.{fate_of, gift, gift_among, grew_on, gift_trace, made_end, made_gave, call_made, item_end, item_refused, slice_end, stuck, slice_refused, got_item, all_grew}
 
 first_holds : (b c : Bool) → (b && c) ≡ true → b ≡ true
 first_holds true c h = refl
@@ -28,8 +28,8 @@ same_sight : {S C R : Type 0} (v w : Sight S C R) → w.seen ≡ v.seen → w.mi
 same_sight v w s m p = ap (λ z. sight z w.mine w.area) s ∙ (ap (λ z. sight v.seen z w.area) m ∙ ap (λ z. sight v.seen v.mine z) p)
 
 -- a gift to the area, or none, between any two sights
-gift_between : {S C R : Type 0} (step : Option S → C → Option S × R) (a : Area) (n : ℕ) (v w : Sight S C R) (bytes : ℕ) (b : Bool) → GaveBack a v.area w.area bytes b → number_of w.area ≡ number_of v.area → w.seen ≡ v.seen → w.mine ≡ v.mine → Trace step a n v w (gift bytes b)
-gift_between step a n v w bytes true g same s m = (w, (g, same, s, m), refl)
+gift_between : {S C R : Type 0} (step : Option S → C → Option S × R) (a : Area) (n : ℕ) (v w : Sight S C R) (bytes : ℕ) (b : Bool) (g : GaveBack a v.area w.area bytes b) → number_of w.area ≡ number_of v.area → w.seen ≡ v.seen → w.mine ≡ v.mine → Trace step a n v w (gift bytes (fate_of a v.area w.area bytes b g) b)
+gift_between step a n v w bytes true g same s m = (w, (g.1, same, s, m), refl)
 gift_between step a n v w bytes false g same s m = same_sight v w s m g
 
 module _ {S C R : Type 0} (number item : ℕ) (key : List ℕ) (call : C) (step : Option S → C → Option S × R) (a : Area) (n : ℕ) (v : Sight S C R) where
@@ -44,11 +44,12 @@ module _ {S C R : Type 0} (number item : ℕ) (key : List ℕ) (call : C) (step 
       → GaveBack a p q (chunk_size item) kept → number_of q ≡ number_of p
       → (es : List (Event S C R)) × IsMadeWith number item key call held false reply es × Trace step a n v (sight s m q) es × AllGrew number item key call es s
   gave_spare s m p q kept reply x gave same =
-      let tail : List (Event S C R) = gift (chunk_size item) kept in (
+      let fate : Bool = fate_of a p q (chunk_size item) kept gave in
+      let tail : List (Event S C R) = gift (chunk_size item) fate kept in (
         x.0 ++ tail,
-        made_gave number item key call kept reply x.0 x.1,
+        made_gave number item key call kept fate reply x.0 x.1,
         trace_append step a n v (sight s m p) (sight s m q) x.0 tail x.2 (gift_trace step a n s m p q (chunk_size item) kept gave same),
-        grew_on number item key call step a n v s s x.0 tail x.3 (λ size h k few. let e = gift_among (chunk_size item) kept (Turn number (Call key call h.0) (HasToGrow size h.0)) h.1 in absurd (cc)) (λ k few. omega arith),
+        grew_on number item key call step a n v s s x.0 tail x.3 (λ size h k few. let e = gift_among (chunk_size item) fate kept (Turn number (Call key call h.0) (HasToGrow size h.0)) h.1 in absurd (cc)) (λ k few. omega arith),
       )
 
   module _ (at who : ℕ) (s m s' m' : Histories (PartitionState S) (PartitionCalls C) (PartitionReplies S R)) (spare : Bool) (same_at : at ≡ number) (same_who : who ≡ n) where
@@ -63,12 +64,13 @@ module _ {S C R : Type 0} (number item : ℕ) (key : List ℕ) (call : C) (step 
         let brought : unused ≡ true → spare ≡ true = λ h. first_holds spare _ (sym l.1.is.1.unused_is ∙ h) in
         let begun : fulls x.events + 7 ≤ size_at s number = x.rounds in
         let rounds : fulls x.events ≤ 13 = omega arith in
-        let tail : List (Event S C R) = made_end number item key call spare reply unused freed in (
+        let fate : Bool = fate_of a p q (chunk_size item) (unused && freed) gave in
+        let tail : List (Event S C R) = made_end number item key call spare reply unused freed fate in (
           x.events ++ tail,
-          subst (λ (z : Bool). IsMadeWith number item key call held z reply (x.events ++ tail)) (sym is_kept) (call_made number item key call x.events spare reply unused freed x.is rounds brought),
+          subst (λ (z : Bool). IsMadeWith number item key call held z reply (x.events ++ tail)) (sym is_kept) (call_made number item key call x.events spare reply unused freed fate x.is rounds brought),
           trace_append step a n v (sight s m p) (sight s' m' q) x.events tail x.trace (sight s' m' p, (t, refl), gift_trace step a n s' m' p q (chunk_size item) (unused && freed) gave same),
           grew_on number item key call step a n v s s' x.events tail x.grew
-              (λ size h k few. absurd (⊎_elim (λ e. absurd (cc)) (λ (r : Among (Turn number (Call key call h.0) (HasToGrow size h.0)) (gift (chunk_size item) (unused && freed))). let e = gift_among (chunk_size item) (unused && freed) (Turn number (Call key call h.0) (HasToGrow size h.0)) r in absurd (cc)) h.1))
+              (λ size h k few. absurd (⊎_elim (λ e. absurd (cc)) (λ (r : Among (Turn number (Call key call h.0) (HasToGrow size h.0)) (gift (chunk_size item) fate (unused && freed))). let e = gift_among (chunk_size item) fate (unused && freed) (Turn number (Call key call h.0) (HasToGrow size h.0)) r in absurd (cc)) h.1))
               grows,
         )
 
@@ -145,12 +147,13 @@ module _ {S C R : Type 0} (number item : ℕ) (key : List ℕ) (call : C) (step 
           let few : fulls x.events + 1 ≤ 13 = omega arith in
           let g : SweptAndGave step a n (size + 1) wanted largest (chunk_size item) spare (sight s' m' p) w = subst (λ (z : Bool). SweptAndGave step a n (size + 1) wanted largest (chunk_size item) z (sight s' m' p) w) (kept ∙ hands_back.0) (subst (λ (z : ℕ). SweptAndGave step a z (size + 1) wanted largest (chunk_size item) sent (sight s' m' p) w) same swept) in
           let f = g.until in
+          let fate : Bool = fate_of a g.between.area w.area (chunk_size item) spare g.gave in
           let look : List (Event S C R) = Turn f.number Looks (HasSize f.found f.keys) ∷ Asked (Missed (slice_size (size + 1)) wanted largest) ∷ [] in
-          let tail : List (Event S C R) = slice_end number item key call spare size f.events f.number f.found f.keys wanted largest in
-          let rest : Trace step a n (sight s' m' p) w (f.events ++ stuck number item key call size f.number f.found f.keys wanted largest spare) =
-          subst (λ (z : List (Event S C R)). Trace step a n (sight s' m' p) w z) (append_assoc f.events look (gift (chunk_size item) spare))
-          (trace_append step a n (sight s' m' p) g.between w (f.events ++ look) (gift (chunk_size item) spare) f.trace (gift_between step a n g.between w (chunk_size item) spare g.gave g.caller g.same_seen g.same_mine)) in (
+          let tail : List (Event S C R) = slice_end number item key call fate spare size f.events f.number f.found f.keys wanted largest in
+          let rest : Trace step a n (sight s' m' p) w (f.events ++ stuck number item key call size f.number f.found f.keys wanted largest fate spare) =
+          subst (λ (z : List (Event S C R)). Trace step a n (sight s' m' p) w z) (append_assoc f.events look (gift (chunk_size item) fate spare))
+          (trace_append step a n (sight s' m' p) g.between w (f.events ++ look) (gift (chunk_size item) fate spare) f.trace (gift_between step a n g.between w (chunk_size item) spare g.gave g.caller g.same_seen g.same_mine)) in (
             x.events ++ tail,
-            slice_refused number item key call x.events spare size f.events f.number f.found f.keys wanted largest x.is few f.sweeps f.gifts f.balance f.few f.small,
+            slice_refused number item key call x.events fate spare size f.events f.number f.found f.keys wanted largest x.is few f.sweeps f.gifts f.balance f.few f.small,
             trace_append step a n v (sight s m p) w x.events tail x.trace (sight s' m' p, (hands_back.1, refl), rest),
           )

@@ -16,3 +16,4 @@ pub mod Done
 pub mod Takings
 pub mod Tries
 pub mod Visits
+pub mod Homes

@@ -1,5 +1,5 @@
 -- How a table is made, as facts about lists: requests one after another, slices that are left, and partitions in order.
-use Rattle.std.proofs.Common.{◌≡◌, ℕ, zero, suc, ◌+◌, ◌<◌, ◌≤◌, List, [], ◌∷◌, ◌++◌, length, replicate, refl, sym, ap, subst, ◌∙◌, arith}
+use Rattle.std.proofs.Common.{◌≡◌, ℕ, zero, suc, ◌+◌, ◌<◌, ◌≤◌, true, List, [], ◌∷◌, ◌++◌, length, replicate, refl, sym, ap, subst, ◌∙◌, arith}
 use mathlib.Core.Option.{some}
 use lib.ListN.{get_elem?}
 use Rattle.atomic_table.specs.Seated.{TableId}
@@ -9,8 +9,10 @@ use Rattle.dsa_area.specs.declared.area.Area.{Area}
 use Rattle.dsa_area.specs.declared.area.AreaPass.{AreaPass}
 use Rattle.dshash_parts.specs.declared.histories.PartitionName.{PartitionName}
 use Rattle.dshash_parts.specs.States.{PartitionState, fresh}
-use Rattle.dshash_parts.specs.Traces.{Request, Got, Missed, Gave, Requested}
-use Rattle.dshash_parts.specs.Opening.{Asks, AreSlices, HaveWords, opens_from, refused_after}
+use Rattle.dshash_parts.specs.Traces.{Request, Got, Missed, Requested}
+use Rattle.dshash_parts.specs.Sweeps.{GaveBack}
+use Rattle.dshash_parts.specs.Opening.{Asks, AreSlices, GaveSlices, HaveWords, IsNoTable, gave_slices, opens_from}
+use Rattle.dshash_parts.specs.declared.open.DsNew.TheVariants.{NoSpace}
 
 pub asks_append : (a : Area) (p q u : AreaPass) (rs ss : List Request) → Asks a p q rs → Asks a q u ss → Asks a p u (rs ++ ss)
 asks_append a p q u [] ss x y = subst (λ (z : AreaPass). Asks a z u ss) x y
@@ -27,14 +29,25 @@ asks_next a p q u n m r e x y =
     let more : suc n ≡ m = omega arith in
     subst (λ (z : ℕ). Asks a p u (replicate z r)) more (subst (λ (z : List Request). Asks a p u z) (replicate_snoc n r) (asks_append a p q u (replicate n r) (r ∷ []) x (u, y, refl)))
 
--- one request, and this many of the same kind
-pub asks_first : (a : Area) (p q u : AreaPass) (n m : ℕ) (r : Request) → m ≡ n + 1 → Requested a p q r → Asks a q u (replicate n r) → Asks a p u (replicate m r)
-asks_first a p q u n m r e y x = let more : suc n ≡ m = omega arith in subst (λ (z : ℕ). Asks a p u (replicate z r)) more (q, y, x)
+-- one slice went back, and then this many
+pub gave_first : (a : Area) (p q u : AreaPass) (n m : ℕ) → m ≡ n + 1 → GaveBack a p q (chunk_size 8) true → GaveSlices a q u n → GaveSlices a p u m
+gave_first a p q u n m e y x =
+    let few : length x.0 ≡ n = x.1 in
+    let more : length (y.0 ∷ x.0) ≡ m = omega arith in (y.0 ∷ x.0, more, (q, y.1, x.2))
+
+-- none went back
+pub gave_none : (a : Area) (p : AreaPass) → GaveSlices a p p 0
+gave_none a p = ([], refl, refl)
 
 -- this many slices were granted, one was refused, and they went back
-pub asks_refused : (a : Area) (p q u w : AreaPass) (n m pages largest : ℕ) → m ≡ n → Asks a p q (replicate n (Got 8)) → Requested a q u (Missed 8 pages largest) → Asks a u w (replicate m (Gave (chunk_size 8))) → Asks a p w (refused_after n pages largest)
-asks_refused a p q u w n m pages largest e x y z =
-    asks_append a p q w (replicate n (Got 8)) (Missed 8 pages largest ∷ replicate n (Gave (chunk_size 8))) x (u, y, subst (λ (k : ℕ). Asks a u w (replicate k (Gave (chunk_size 8)))) e z)
+pub asks_refused : (a : Area) (p q u w : AreaPass) (n m pages largest : ℕ) → m ≡ n → n < 128 → Asks a p q (replicate n (Got 8)) → Requested a q u (Missed 8 pages largest) → GaveSlices a u w m → IsNoTable a p w (NoSpace pages largest)
+asks_refused a p q u w n m pages largest e low x y z =
+    let count : length z.0 ≡ n = z.1 ∙ e in
+    let few : length z.0 < 128 = omega arith in (
+      z.0,
+      few,
+      asks_append a p q w (replicate (length z.0) (Got 8)) (Missed 8 pages largest ∷ gave_slices z.0) (subst (λ (k : ℕ). Asks a p q (replicate k (Got 8))) (sym count) x) (u, y, z.2),
+    )
 
 -- the last slice, and those before it
 pub slices_last : (region : TableId) (all xs : List Chunk) (c : Chunk) → all ≡ xs ++ c ∷ [] → AreSlices region all → AreSlices region xs × (c.part.region ≡ region) × (c.bytes ≡ chunk_size 8)

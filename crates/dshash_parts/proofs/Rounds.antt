@@ -48,7 +48,7 @@ module _ {S C R : Type 0} where
   sweeps_quiet size (Turn number Looks (HasSize found keys) ∷ es) h = sweeps_quiet size es h.1
   sweeps_quiet size (Turn number (Moves to) (Moved left) ∷ es) h = sweeps_quiet size es h.1
   sweeps_quiet size (Asked (Got bytes) ∷ es) h = sweeps_quiet size es h.1
-  sweeps_quiet size (Asked (Gave bytes) ∷ es) h = sweeps_quiet size es h.1
+  sweeps_quiet size (Asked (Gave bytes accepted) ∷ es) h = sweeps_quiet size es h.1
   sweeps_quiet size (Asked (Missed bytes wanted largest) ∷ es) h = absurd h.0
   sweeps_quiet size (Turn number (Call k c s) reply ∷ es) h = absurd h.0
   sweeps_quiet size (Turn number Lists reply ∷ es) h = absurd h.0
@@ -68,14 +68,20 @@ module _ {S C R : Type 0} where
   sweep_among size e [] h x = absurd x
   sweep_among size e (z ∷ zs) h x = ⊎_elim (λ (same : e ≡ z). subst (λ (y : Event S C R). IsSweep size y) (sym same) h.0) (λ (r : Among e zs). sweep_among size e zs h.1 r) x
 
-  -- a gift of this many bytes to the area, or none
-  abbrev pub gift : ℕ → Bool → List (Event S C R)
-  gift bytes true = Asked (Gave bytes) ∷ []
-  gift bytes false = []
+  -- a gift of this many bytes to the area, which took it if the second answer says so; or none
+  abbrev pub gift : ℕ → Bool → Bool → List (Event S C R)
+  gift bytes fate true = Asked (Gave bytes fate) ∷ []
+  gift bytes fate false = []
 
-  pub gift_trace : (step : Option S → C → Option S × R) (a : Area) (n : ℕ) (s m : Histories (PartitionState S) (PartitionCalls C) (PartitionReplies S R)) (p q : AreaPass) (bytes : ℕ) (b : Bool) → GaveBack a p q bytes b → number_of q ≡ number_of p
-      → Trace step a n (sight s m p) (sight s m q) (gift bytes b)
-  gift_trace step a n s m p q bytes true g same = (sight s m q, (g, same, refl, refl), refl)
+-- the area took what it was given, if it was given something
+abbrev pub fate_of : (a : Area) (p q : AreaPass) (bytes : ℕ) (b : Bool) → GaveBack a p q bytes b → Bool
+fate_of a p q bytes true g = g.0
+fate_of a p q bytes false g = true
+
+module _ {S C R : Type 0} where
+  pub gift_trace : (step : Option S → C → Option S × R) (a : Area) (n : ℕ) (s m : Histories (PartitionState S) (PartitionCalls C) (PartitionReplies S R)) (p q : AreaPass) (bytes : ℕ) (b : Bool) (g : GaveBack a p q bytes b) → number_of q ≡ number_of p
+      → Trace step a n (sight s m p) (sight s m q) (gift bytes (fate_of a p q bytes b g) b)
+  gift_trace step a n s m p q bytes true g same = (sight s m q, (g.1, same, refl, refl), refl)
   gift_trace step a n s m p q bytes false g same = ap (sight s m) g
 
 module _ {S C R : Type 0} (number item : ℕ) (key : List ℕ) (call : C) where
@@ -96,13 +102,13 @@ module _ {S C R : Type 0} (number item : ℕ) (key : List ℕ) (call : C) where
         (x.grants bytes a))
         (λ (b : Among (Asked (Got bytes)) fs). y.grants bytes b)
         (among_parts (Asked (Got bytes)) es fs h);
-    gifts = λ bytes h. ⊎_elim
-        (λ (a : Among (Asked (Gave bytes)) es). ⊎_elim
+    gifts = λ bytes accepted h. ⊎_elim
+        (λ (a : Among (Asked (Gave bytes accepted)) es). ⊎_elim
         (λ (l : bytes ≡ chunk_size item). inl l)
         (λ (r : IsLeftOver es bytes). inr (r.0, r.1, among_front (Turn r.0 (Moves r.1) (Moved bytes)) es fs r.2))
-        (x.gifts bytes a))
-        (λ (b : Among (Asked (Gave bytes)) fs). y.gifts bytes b)
-        (among_parts (Asked (Gave bytes)) es fs h);
+        (x.gifts bytes accepted a))
+        (λ (b : Among (Asked (Gave bytes accepted)) fs). y.gifts bytes accepted b)
+        (among_parts (Asked (Gave bytes accepted)) es fs h);
   }
 
   -- the events of a round that got an item
@@ -110,7 +116,7 @@ module _ {S C R : Type 0} (number item : ℕ) (key : List ℕ) (call : C) where
   item_round = Turn number (Call key call false) LacksItem ∷ Asked (Got item) ∷ []
 
   pub underway_none : (held : Bool) → IsUnderway {S = S} {C = C} {R = R} number item key call held held []
-  underway_none held = record { none = tt; balance = λ bytes. omega arith; caused = record { moves = λ k to left h. absurd h; grants = λ bytes h. absurd h; gifts = λ bytes h. absurd h }; asks = omega arith; uses = λ h. (h, λ l. l) }
+  underway_none held = record { none = tt; balance = λ bytes. omega arith; caused = record { moves = λ k to left h. absurd h; grants = λ bytes h. absurd h; gifts = λ bytes accepted h. absurd h }; asks = omega arith; uses = λ h. (h, λ l. l) }
 
   pub underway_item : {held : Bool} (es : List (Event S C R)) → IsUnderway number item key call held false es → IsUnderway number item key call held true (es ++ item_round)
   underway_item es x = record {
@@ -119,7 +125,7 @@ module _ {S C R : Type 0} (number item : ℕ) (key : List ℕ) (call : C) where
     caused = caused_both es item_round x.caused (record {
       moves = λ k to left h. ⊎_elim (λ e. absurd (cc)) (λ r. ⊎_elim (λ e. absurd (cc)) (λ z. absurd z) r) h;
       grants = λ bytes h. inl (⊎_elim (λ e. absurd (cc)) (λ r. ⊎_elim (λ (e : Asked (Got bytes) ≡ Asked (Got item)). cc) (λ z. absurd z) r) h, among_back (Turn number (Call key call false) LacksItem) es item_round (inl refl));
-      gifts = λ bytes h. absurd (⊎_elim (λ e. absurd (cc)) (λ r. ⊎_elim (λ (e : Asked (Gave bytes) ≡ Asked (Got item)). absurd (cc)) (λ z. absurd z) r) h);
+      gifts = λ bytes accepted h. absurd (⊎_elim (λ e. absurd (cc)) (λ r. ⊎_elim (λ (e : Asked (Gave bytes accepted) ≡ Asked (Got item)). absurd (cc)) (λ z. absurd z) r) h);
     });
     asks = let p = asked_append es item_round in let q = fulls_append es item_round in let b = x.asks in omega arith;
     uses = λ h. let e : false ≡ true = (x.uses h).0 in absurd (cc);
@@ -134,8 +140,8 @@ module _ {S C R : Type 0} (number item : ℕ) (key : List ℕ) (call : C) where
       let told : HadToGrow number item key call (es ++ growth spare size sweep) size = (spare, among_back (Turn number (Call key call spare) (HasToGrow size spare)) es (growth spare size sweep) (inl refl)) in record {
         moves = λ k to left x. (size, told, ⊎_elim (λ e. absurd (cc)) (λ (r : Among (Turn k (Moves to) (Moved left)) sweep). sweep_among (size + 1) (Turn k (Moves to) (Moved left)) sweep h r) x);
         grants = λ bytes x. inr (size, told, ⊎_elim (λ e. absurd (cc)) (λ (r : Among (Asked (Got bytes)) sweep). sweep_among (size + 1) (Asked (Got bytes)) sweep h r) x);
-        gifts = λ bytes x. inr (⊎_elim (λ e. absurd (cc))
-            (λ (r : Among (Asked (Gave bytes)) sweep). let l = gave bytes r in (l.0, l.1, among_back (Turn l.0 (Moves l.1) (Moved bytes)) es (growth spare size sweep) (inr l.2))) x);
+        gifts = λ bytes accepted x. inr (⊎_elim (λ e. absurd (cc))
+            (λ (r : Among (Asked (Gave bytes accepted)) sweep). let l = gave bytes accepted r in (l.0, l.1, among_back (Turn l.0 (Moves l.1) (Moved bytes)) es (growth spare size sweep) (inr l.2))) x);
       }
 
   pub underway_growth : {held : Bool} (es : List (Event S C R)) (spare : Bool) (size : ℕ) (sweep : List (Event S C R)) → IsUnderway number item key call held spare es → AreSweeps (size + 1) sweep → GivesLeftOvers sweep → SlicesBalance sweep → asked sweep ≤ 128
@@ -173,54 +179,54 @@ module _ {S C R : Type 0} where
   gifts_append (Turn number call reply ∷ es) fs x y = absurd x
   gifts_append (Asked (Got bytes) ∷ es) fs x y = absurd x
   gifts_append (Asked (Missed bytes wanted largest) ∷ es) fs x y = absurd x
-  gifts_append (Asked (Gave bytes) ∷ es) fs x y = gifts_append es fs x y
+  gifts_append (Asked (Gave bytes accepted) ∷ es) fs x y = gifts_append es fs x y
 
   -- what stands in a gift is a gift of these bytes
-  pub gift_among : (bytes : ℕ) (b : Bool) (e : Event S C R) → Among e (gift bytes b) → e ≡ Asked (Gave bytes)
-  gift_among bytes true e x = ⊎_elim (λ (same : e ≡ Asked (Gave bytes)). same) (λ z. absurd z) x
-  gift_among bytes false e x = absurd x
+  pub gift_among : (bytes : ℕ) (fate b : Bool) (e : Event S C R) → Among e (gift bytes fate b) → e ≡ Asked (Gave bytes fate)
+  gift_among bytes fate true e x = ⊎_elim (λ (same : e ≡ Asked (Gave bytes fate)). same) (λ z. absurd z) x
+  gift_among bytes fate false e x = absurd x
 
 -- what a gift is, or none
-record OnlyGift (S C R : Type 0) (bytes : ℕ) (spare : Bool) : Type 0 where
-  are : AreGifts {S = S} {C = C} {R = R} (gift bytes spare)
-  took_is : (item counted : ℕ) → all_took {S = S} {C = C} {R = R} item counted (gift bytes spare) ≡ count_if spare bytes counted
-  brought_none : (item counted : ℕ) → all_brought {S = S} {C = C} {R = R} item counted (gift bytes spare) ≡ 0
-  asked_none : asked {S = S} {C = C} {R = R} (gift bytes spare) ≡ 0
-  fulls_none : fulls {S = S} {C = C} {R = R} (gift bytes spare) ≡ 0
-  none : NoneMade {S = S} {C = C} {R = R} (gift bytes spare)
+record OnlyGift (S C R : Type 0) (bytes : ℕ) (fate spare : Bool) : Type 0 where
+  are : AreGifts {S = S} {C = C} {R = R} (gift bytes fate spare)
+  took_is : (item counted : ℕ) → all_took {S = S} {C = C} {R = R} item counted (gift bytes fate spare) ≡ count_if spare bytes counted
+  brought_none : (item counted : ℕ) → all_brought {S = S} {C = C} {R = R} item counted (gift bytes fate spare) ≡ 0
+  asked_none : asked {S = S} {C = C} {R = R} (gift bytes fate spare) ≡ 0
+  fulls_none : fulls {S = S} {C = C} {R = R} (gift bytes fate spare) ≡ 0
+  none : NoneMade {S = S} {C = C} {R = R} (gift bytes fate spare)
 
-only_gift : (S C R : Type 0) (bytes : ℕ) (spare : Bool) → OnlyGift S C R bytes spare
-only_gift S C R bytes true = record { are = tt; took_is = λ item counted. omega arith; brought_none = λ item counted. refl; asked_none = refl; fulls_none = refl; none = tt }
-only_gift S C R bytes false = record { are = tt; took_is = λ item counted. refl; brought_none = λ item counted. refl; asked_none = refl; fulls_none = refl; none = tt }
+only_gift : (S C R : Type 0) (bytes : ℕ) (fate spare : Bool) → OnlyGift S C R bytes fate spare
+only_gift S C R bytes fate true = record { are = tt; took_is = λ item counted. omega arith; brought_none = λ item counted. refl; asked_none = refl; fulls_none = refl; none = tt }
+only_gift S C R bytes fate false = record { are = tt; took_is = λ item counted. refl; brought_none = λ item counted. refl; asked_none = refl; fulls_none = refl; none = tt }
 
 module _ {S C R : Type 0} (number item : ℕ) (key : List ℕ) (call : C) where
   -- the end of a call that was made: of the item that it did not use and the one that it freed, where there are both, one
   -- is given back
-  abbrev pub made_end : Bool → R → Bool → Bool → List (Event S C R)
-  made_end spare reply unused freed = Turn number (Call key call spare) (Made reply unused freed) ∷ gift (chunk_size item) (unused && freed)
+  abbrev pub made_end : Bool → R → Bool → Bool → Bool → List (Event S C R)
+  made_end spare reply unused freed fate = Turn number (Call key call spare) (Made reply unused freed) ∷ gift (chunk_size item) fate (unused && freed)
 
   -- a gift of an item has its cause in itself
-  gift_caused : (es : List (Event S C R)) (b : Bool) → AreCaused number item key call es (gift (chunk_size item) b)
-  gift_caused es b = record {
-    moves = λ k to left y. let e = gift_among (chunk_size item) b (Turn k (Moves to) (Moved left)) y in absurd (cc);
-    grants = λ bytes y. let e = gift_among (chunk_size item) b (Asked (Got bytes)) y in absurd (cc);
-    gifts = λ bytes y. let e = gift_among (chunk_size item) b (Asked (Gave bytes)) y in let same : bytes ≡ chunk_size item = cc in inl same;
+  gift_caused : (es : List (Event S C R)) (fate b : Bool) → AreCaused number item key call es (gift (chunk_size item) fate b)
+  gift_caused es fate b = record {
+    moves = λ k to left y. let e = gift_among (chunk_size item) fate b (Turn k (Moves to) (Moved left)) y in absurd (cc);
+    grants = λ bytes y. let e = gift_among (chunk_size item) fate b (Asked (Got bytes)) y in absurd (cc);
+    gifts = λ bytes accepted y. let e = gift_among (chunk_size item) fate b (Asked (Gave bytes accepted)) y in let same : bytes ≡ chunk_size item = cc in inl same;
   }
 
-  pub call_made : {held : Bool} (es : List (Event S C R)) (spare : Bool) (reply : R) (unused freed : Bool) → IsUnderway number item key call held spare es → fulls es ≤ 13 → (unused ≡ true → spare ≡ true)
-      → IsMadeWith number item key call held (unused || freed) reply (es ++ made_end spare reply unused freed)
-  call_made es spare reply unused freed x few h =
-      let tail : List (Event S C R) = made_end spare reply unused freed in
-      let g : OnlyGift S C R (chunk_size item) (unused && freed) = only_gift S C R (chunk_size item) (unused && freed) in
-      let late : AreCaused number item key call (es ++ tail) (gift (chunk_size item) (unused && freed)) = gift_caused (es ++ tail) (unused && freed) in
+  pub call_made : {held : Bool} (es : List (Event S C R)) (spare : Bool) (reply : R) (unused freed fate : Bool) → IsUnderway number item key call held spare es → fulls es ≤ 13 → (unused ≡ true → spare ≡ true)
+      → IsMadeWith number item key call held (unused || freed) reply (es ++ made_end spare reply unused freed fate)
+  call_made es spare reply unused freed fate x few h =
+      let tail : List (Event S C R) = made_end spare reply unused freed fate in
+      let g : OnlyGift S C R (chunk_size item) fate (unused && freed) = only_gift S C R (chunk_size item) fate (unused && freed) in
+      let late : AreCaused number item key call (es ++ tail) (gift (chunk_size item) fate (unused && freed)) = gift_caused (es ++ tail) fate (unused && freed) in
       let caused = caused_both number item key call es tail x.caused (record {
-        moves = λ k to left y. ⊎_elim (λ e. absurd (cc)) (λ (r : Among (Turn k (Moves to) (Moved left)) (gift (chunk_size item) (unused && freed))). late.moves k to left r) y;
-        grants = λ bytes y. ⊎_elim (λ e. absurd (cc)) (λ (r : Among (Asked (Got bytes)) (gift (chunk_size item) (unused && freed))). late.grants bytes r) y;
-        gifts = λ bytes y. ⊎_elim (λ e. absurd (cc)) (λ (r : Among (Asked (Gave bytes)) (gift (chunk_size item) (unused && freed))). late.gifts bytes r) y;
+        moves = λ k to left y. ⊎_elim (λ e. absurd (cc)) (λ (r : Among (Turn k (Moves to) (Moved left)) (gift (chunk_size item) fate (unused && freed))). late.moves k to left r) y;
+        grants = λ bytes y. ⊎_elim (λ e. absurd (cc)) (λ (r : Among (Asked (Got bytes)) (gift (chunk_size item) fate (unused && freed))). late.grants bytes r) y;
+        gifts = λ bytes accepted y. ⊎_elim (λ e. absurd (cc)) (λ (r : Among (Asked (Gave bytes accepted)) (gift (chunk_size item) fate (unused && freed))). late.gifts bytes accepted r) y;
       }) in
       record {
         before = es;
-        after = gift (chunk_size item) (unused && freed);
+        after = gift (chunk_size item) fate (unused && freed);
         spare = spare;
         unused = unused;
         freed = freed;
@@ -228,7 +234,7 @@ module _ {S C R : Type 0} (number item : ℕ) (key : List ℕ) (call : C) where
         none_before = x.none;
         gifts_after = g.are;
         balance = λ bytes. let p = brought_append (chunk_size item) bytes es tail in let q = took_append (chunk_size item) bytes es tail in let b = x.balance bytes in let t = taken (chunk_size item) bytes spare unused h in let o = both_or_one (chunk_size item) bytes unused freed in let u = g.took_is (chunk_size item) bytes in let v = g.brought_none (chunk_size item) bytes in omega arith;
-        uses = λ is l. let lack : Event S C R = Turn number (Call key call false) LacksItem in ⊎_elim (λ (a : Among lack es). (x.uses is).1 a) (λ (b : Among lack tail). ⊎_elim (λ e. absurd (cc)) (λ (r : Among lack (gift (chunk_size item) (unused && freed))). let e = gift_among (chunk_size item) (unused && freed) lack r in absurd (cc)) b) (among_parts lack es tail l);
+        uses = λ is l. let lack : Event S C R = Turn number (Call key call false) LacksItem in ⊎_elim (λ (a : Among lack es). (x.uses is).1 a) (λ (b : Among lack tail). ⊎_elim (λ e. absurd (cc)) (λ (r : Among lack (gift (chunk_size item) fate (unused && freed))). let e = gift_among (chunk_size item) fate (unused && freed) lack r in absurd (cc)) b) (among_parts lack es tail l);
         frugal = record {
           moves = caused.moves;
           grants = caused.grants;
@@ -239,12 +245,12 @@ module _ {S C R : Type 0} (number item : ℕ) (key : List ℕ) (call : C) where
       }
 
   -- a call that was made, and whose spare item was given back then, where there was one
-  pub made_gave : {held : Bool} (kept : Bool) (reply : R) (es : List (Event S C R)) → IsMadeWith number item key call held kept reply es → IsMadeWith number item key call held false reply (es ++ gift (chunk_size item) kept)
-  made_gave kept reply es x =
-      let tail : List (Event S C R) = gift (chunk_size item) kept in
-      let g : OnlyGift S C R (chunk_size item) kept = only_gift S C R (chunk_size item) kept in
+  pub made_gave : {held : Bool} (kept fate : Bool) (reply : R) (es : List (Event S C R)) → IsMadeWith number item key call held kept reply es → IsMadeWith number item key call held false reply (es ++ gift (chunk_size item) fate kept)
+  made_gave kept fate reply es x =
+      let tail : List (Event S C R) = gift (chunk_size item) fate kept in
+      let g : OnlyGift S C R (chunk_size item) fate kept = only_gift S C R (chunk_size item) fate kept in
       let f : IsFrugal number item key call es = x.frugal in
-      let caused = caused_both number item key call es tail (record { moves = f.moves; grants = f.grants; gifts = f.gifts }) (gift_caused (es ++ tail) kept) in
+      let caused = caused_both number item key call es tail (record { moves = f.moves; grants = f.grants; gifts = f.gifts }) (gift_caused (es ++ tail) fate kept) in
       let last : List (Event S C R) = Turn number (Call key call x.spare) (Made reply x.unused x.freed) ∷ x.after in
       record {
         before = x.before;
@@ -255,7 +261,7 @@ module _ {S C R : Type 0} (number item : ℕ) (key : List ℕ) (call : C) where
         is = ap (λ (z : List (Event S C R)). z ++ tail) x.is ∙ append_assoc x.before last tail;
         none_before = x.none_before;
         gifts_after = gifts_append x.after tail x.gifts_after g.are;
-        uses = λ is l. let lack : Event S C R = Turn number (Call key call false) LacksItem in ⊎_elim (λ (a : Among lack es). x.uses is a) (λ (r : Among lack tail). let e = gift_among (chunk_size item) kept lack r in absurd (cc)) (among_parts lack es tail l);
+        uses = λ is l. let lack : Event S C R = Turn number (Call key call false) LacksItem in ⊎_elim (λ (a : Among lack es). x.uses is a) (λ (r : Among lack tail). let e = gift_among (chunk_size item) fate kept lack r in absurd (cc)) (among_parts lack es tail l);
         balance = λ bytes. let p = brought_append (chunk_size item) bytes es tail in let q = took_append (chunk_size item) bytes es tail in let b = x.balance bytes in let u = g.took_is (chunk_size item) bytes in let v = g.brought_none (chunk_size item) bytes in omega arith;
         frugal = record {
           moves = caused.moves;
@@ -277,7 +283,7 @@ module _ {S C R : Type 0} (number item : ℕ) (key : List ℕ) (call : C) where
       let caused = caused_both number item key call es tail x.caused (record {
         moves = λ k to left y. absurd (⊎_elim (λ e. absurd (cc)) (λ r. ⊎_elim (λ e. absurd (cc)) (λ z. z) r) y);
         grants = λ bytes y. absurd (⊎_elim (λ e. absurd (cc)) (λ r. ⊎_elim (λ e. absurd (cc)) (λ z. z) r) y);
-        gifts = λ bytes y. absurd (⊎_elim (λ e. absurd (cc)) (λ r. ⊎_elim (λ e. absurd (cc)) (λ z. z) r) y);
+        gifts = λ bytes accepted y. absurd (⊎_elim (λ e. absurd (cc)) (λ r. ⊎_elim (λ e. absurd (cc)) (λ z. z) r) y);
       }) in
       record {
         before = es ++ lacks;
@@ -299,62 +305,62 @@ module _ {S C R : Type 0} (number item : ℕ) (key : List ℕ) (call : C) where
       }
 
   -- the end of a call for which there was no slice: the partition k of a smaller size was the first to find none
-  abbrev pub stuck : ℕ → ℕ → ℕ → ℕ → ℕ → ℕ → Bool → List (Event S C R)
-  stuck size k found keys wanted largest spare = Turn k Looks (HasSize found keys) ∷ Asked (Missed (slice_size (size + 1)) wanted largest) ∷ gift (chunk_size item) spare
+  abbrev pub stuck : ℕ → ℕ → ℕ → ℕ → ℕ → ℕ → Bool → Bool → List (Event S C R)
+  stuck size k found keys wanted largest fate spare = Turn k Looks (HasSize found keys) ∷ Asked (Missed (slice_size (size + 1)) wanted largest) ∷ gift (chunk_size item) fate spare
 
-  abbrev pub slice_end : Bool → ℕ → List (Event S C R) → ℕ → ℕ → ℕ → ℕ → ℕ → List (Event S C R)
-  slice_end spare size sweep k found keys wanted largest = Turn number (Call key call spare) (HasToGrow size spare) ∷ (sweep ++ stuck size k found keys wanted largest spare)
+  abbrev pub slice_end : Bool → Bool → ℕ → List (Event S C R) → ℕ → ℕ → ℕ → ℕ → ℕ → List (Event S C R)
+  slice_end fate spare size sweep k found keys wanted largest = Turn number (Call key call spare) (HasToGrow size spare) ∷ (sweep ++ stuck size k found keys wanted largest fate spare)
 
-  slice_caused : (es : List (Event S C R)) (spare : Bool) (size : ℕ) (sweep : List (Event S C R)) (k found keys wanted largest : ℕ) → AreSweeps (size + 1) sweep → GivesLeftOvers sweep
-      → AreCaused number item key call (es ++ slice_end spare size sweep k found keys wanted largest) (slice_end spare size sweep k found keys wanted largest)
-  slice_caused es spare size sweep k found keys wanted largest h gave =
-      let told : HadToGrow number item key call (es ++ slice_end spare size sweep k found keys wanted largest) size = (spare, among_back (Turn number (Call key call spare) (HasToGrow size spare)) es (slice_end spare size sweep k found keys wanted largest) (inl refl)) in
+  slice_caused : (es : List (Event S C R)) (fate spare : Bool) (size : ℕ) (sweep : List (Event S C R)) (k found keys wanted largest : ℕ) → AreSweeps (size + 1) sweep → GivesLeftOvers sweep
+      → AreCaused number item key call (es ++ slice_end fate spare size sweep k found keys wanted largest) (slice_end fate spare size sweep k found keys wanted largest)
+  slice_caused es fate spare size sweep k found keys wanted largest h gave =
+      let told : HadToGrow number item key call (es ++ slice_end fate spare size sweep k found keys wanted largest) size = (spare, among_back (Turn number (Call key call spare) (HasToGrow size spare)) es (slice_end fate spare size sweep k found keys wanted largest) (inl refl)) in
       record {
         moves = λ j to left x. (
           size,
           told,
-          ⊎_elim (λ e. absurd (cc)) (λ (r : Among (Turn j (Moves to) (Moved left)) (sweep ++ stuck size k found keys wanted largest spare)). ⊎_elim
+          ⊎_elim (λ e. absurd (cc)) (λ (r : Among (Turn j (Moves to) (Moved left)) (sweep ++ stuck size k found keys wanted largest fate spare)). ⊎_elim
               (λ (a : Among (Turn j (Moves to) (Moved left)) sweep). sweep_among (size + 1) (Turn j (Moves to) (Moved left)) sweep h a)
-              (λ (b : Among (Turn j (Moves to) (Moved left)) (stuck size k found keys wanted largest spare)). absurd (⊎_elim (λ e. absurd (cc)) (λ c. ⊎_elim (λ e. absurd (cc)) (λ (d : Among (Turn j (Moves to) (Moved left)) (gift (chunk_size item) spare)). let e = gift_among (chunk_size item) spare (Turn j (Moves to) (Moved left)) d in absurd (cc)) c) b))
-              (among_parts (Turn j (Moves to) (Moved left)) sweep (stuck size k found keys wanted largest spare) r)) x,
+              (λ (b : Among (Turn j (Moves to) (Moved left)) (stuck size k found keys wanted largest fate spare)). absurd (⊎_elim (λ e. absurd (cc)) (λ c. ⊎_elim (λ e. absurd (cc)) (λ (d : Among (Turn j (Moves to) (Moved left)) (gift (chunk_size item) fate spare)). let e = gift_among (chunk_size item) fate spare (Turn j (Moves to) (Moved left)) d in absurd (cc)) c) b))
+              (among_parts (Turn j (Moves to) (Moved left)) sweep (stuck size k found keys wanted largest fate spare) r)) x,
         );
         grants = λ bytes x. inr (
           size,
           told,
-          ⊎_elim (λ e. absurd (cc)) (λ (r : Among (Asked (Got bytes)) (sweep ++ stuck size k found keys wanted largest spare)). ⊎_elim
+          ⊎_elim (λ e. absurd (cc)) (λ (r : Among (Asked (Got bytes)) (sweep ++ stuck size k found keys wanted largest fate spare)). ⊎_elim
               (λ (a : Among (Asked (Got bytes)) sweep). sweep_among (size + 1) (Asked (Got bytes)) sweep h a)
-              (λ (b : Among (Asked (Got bytes)) (stuck size k found keys wanted largest spare)). absurd (⊎_elim (λ e. absurd (cc)) (λ c. ⊎_elim (λ e. absurd (cc)) (λ (d : Among (Asked (Got bytes)) (gift (chunk_size item) spare)). let e = gift_among (chunk_size item) spare (Asked (Got bytes)) d in absurd (cc)) c) b))
-              (among_parts (Asked (Got bytes)) sweep (stuck size k found keys wanted largest spare) r)) x,
+              (λ (b : Among (Asked (Got bytes)) (stuck size k found keys wanted largest fate spare)). absurd (⊎_elim (λ e. absurd (cc)) (λ c. ⊎_elim (λ e. absurd (cc)) (λ (d : Among (Asked (Got bytes)) (gift (chunk_size item) fate spare)). let e = gift_among (chunk_size item) fate spare (Asked (Got bytes)) d in absurd (cc)) c) b))
+              (among_parts (Asked (Got bytes)) sweep (stuck size k found keys wanted largest fate spare) r)) x,
         );
-        gifts = λ bytes x. ⊎_elim (λ e. absurd (cc)) (λ (r : Among (Asked (Gave bytes)) (sweep ++ stuck size k found keys wanted largest spare)). ⊎_elim
-            (λ (a : Among (Asked (Gave bytes)) sweep).
-            let l = gave bytes a in
-            inr (l.0, l.1, among_back (Turn l.0 (Moves l.1) (Moved bytes)) es (slice_end spare size sweep k found keys wanted largest) (inr (among_front (Turn l.0 (Moves l.1) (Moved bytes)) sweep (stuck size k found keys wanted largest spare) l.2))))
-            (λ (b : Among (Asked (Gave bytes)) (stuck size k found keys wanted largest spare)). inl (⊎_elim (λ e. absurd (cc)) (λ c. ⊎_elim (λ e. absurd (cc)) (λ (d : Among (Asked (Gave bytes)) (gift (chunk_size item) spare)). let e = gift_among (chunk_size item) spare (Asked (Gave bytes)) d in let same : bytes ≡ chunk_size item = cc in same) c) b))
-            (among_parts (Asked (Gave bytes)) sweep (stuck size k found keys wanted largest spare) r)) x;
+        gifts = λ bytes accepted x. ⊎_elim (λ e. absurd (cc)) (λ (r : Among (Asked (Gave bytes accepted)) (sweep ++ stuck size k found keys wanted largest fate spare)). ⊎_elim
+            (λ (a : Among (Asked (Gave bytes accepted)) sweep).
+            let l = gave bytes accepted a in
+            inr (l.0, l.1, among_back (Turn l.0 (Moves l.1) (Moved bytes)) es (slice_end fate spare size sweep k found keys wanted largest) (inr (among_front (Turn l.0 (Moves l.1) (Moved bytes)) sweep (stuck size k found keys wanted largest fate spare) l.2))))
+            (λ (b : Among (Asked (Gave bytes accepted)) (stuck size k found keys wanted largest fate spare)). inl (⊎_elim (λ e. absurd (cc)) (λ c. ⊎_elim (λ e. absurd (cc)) (λ (d : Among (Asked (Gave bytes accepted)) (gift (chunk_size item) fate spare)). let e = gift_among (chunk_size item) fate spare (Asked (Gave bytes accepted)) d in let same : bytes ≡ chunk_size item = cc in same) c) b))
+            (among_parts (Asked (Gave bytes accepted)) sweep (stuck size k found keys wanted largest fate spare) r)) x;
       }
 
-  pub slice_refused : {held : Bool} (es : List (Event S C R)) (spare : Bool) (size : ℕ) (sweep : List (Event S C R)) (k found keys wanted largest : ℕ) → IsUnderway number item key call held spare es → fulls es + 1 ≤ 13 → AreSweeps (size + 1) sweep → GivesLeftOvers sweep → SlicesBalance sweep → asked sweep ≤ 127 → found < size + 1
-      → IsRefusedWith number item key call held wanted largest (es ++ slice_end spare size sweep k found keys wanted largest)
-  slice_refused es spare size sweep k found keys wanted largest x few h gave even asks small =
-      let rest : List (Event S C R) = stuck size k found keys wanted largest spare in
-      let tail : List (Event S C R) = slice_end spare size sweep k found keys wanted largest in
+  pub slice_refused : {held : Bool} (es : List (Event S C R)) (fate spare : Bool) (size : ℕ) (sweep : List (Event S C R)) (k found keys wanted largest : ℕ) → IsUnderway number item key call held spare es → fulls es + 1 ≤ 13 → AreSweeps (size + 1) sweep → GivesLeftOvers sweep → SlicesBalance sweep → asked sweep ≤ 127 → found < size + 1
+      → IsRefusedWith number item key call held wanted largest (es ++ slice_end fate spare size sweep k found keys wanted largest)
+  slice_refused es fate spare size sweep k found keys wanted largest x few h gave even asks small =
+      let rest : List (Event S C R) = stuck size k found keys wanted largest fate spare in
+      let tail : List (Event S C R) = slice_end fate spare size sweep k found keys wanted largest in
       let told : Event S C R = Turn number (Call key call spare) (HasToGrow size spare) in
       let look : Event S C R = Turn k Looks (HasSize found keys) in
       let missed : Event S C R = Asked (Missed (slice_size (size + 1)) wanted largest) in
       let front : List (Event S C R) = told ∷ (sweep ++ look ∷ []) in
       let quiet = sweeps_quiet (size + 1) sweep h in
-      let g : OnlyGift S C R (chunk_size item) spare = only_gift S C R (chunk_size item) spare in
-      let caused = caused_both number item key call es tail x.caused (slice_caused es spare size sweep k found keys wanted largest h gave) in
+      let g : OnlyGift S C R (chunk_size item) fate spare = only_gift S C R (chunk_size item) fate spare in
+      let caused = caused_both number item key call es tail x.caused (slice_caused es fate spare size sweep k found keys wanted largest h gave) in
       let u = asked_append es tail in
       let w = fulls_append es tail in
       let u' = asked_append sweep rest in
       let w' = fulls_append sweep rest in
       record {
         before = es ++ front;
-        after = gift (chunk_size item) spare;
+        after = gift (chunk_size item) fate spare;
         bytes = slice_size (size + 1);
-        is = sym (append_assoc es front (missed ∷ gift (chunk_size item) spare) ∙ ap (λ (z : List (Event S C R)). es ++ told ∷ z) (append_assoc sweep (look ∷ []) (missed ∷ gift (chunk_size item) spare)));
+        is = sym (append_assoc es front (missed ∷ gift (chunk_size item) fate spare) ∙ ap (λ (z : List (Event S C R)). es ++ told ∷ z) (append_assoc sweep (look ∷ []) (missed ∷ gift (chunk_size item) fate spare)));
         none = none_append es tail x.none (none_append sweep rest quiet.0 g.none);
         cause = inr (size, k, found, (spare, among_back told es front (inl refl)), refl, (keys, among_back look es front (inr (among_back look sweep (look ∷ []) (inl refl)))), omega arith);
         gifts_after = g.are;
@@ -368,7 +374,7 @@ module _ {S C R : Type 0} (number item : ℕ) (key : List ℕ) (call : C) where
             let v = g.took_is (chunk_size item) bytes in
             let t = g.brought_none (chunk_size item) bytes in
             omega arith;
-        uses = λ is l. let lack : Event S C R = Turn number (Call key call false) LacksItem in ⊎_elim (λ (a : Among lack es). (x.uses is).1 a) (λ (b : Among lack tail). ⊎_elim (λ e. absurd (cc)) (λ (r : Among lack (sweep ++ rest)). ⊎_elim (λ (s : Among lack sweep). sweep_among (size + 1) lack sweep h s) (λ (t : Among lack rest). ⊎_elim (λ e. absurd (cc)) (λ c. ⊎_elim (λ e. absurd (cc)) (λ (d : Among lack (gift (chunk_size item) spare)). let e = gift_among (chunk_size item) spare lack d in absurd (cc)) c) t) (among_parts lack sweep rest r)) b) (among_parts lack es tail l);
+        uses = λ is l. let lack : Event S C R = Turn number (Call key call false) LacksItem in ⊎_elim (λ (a : Among lack es). (x.uses is).1 a) (λ (b : Among lack tail). ⊎_elim (λ e. absurd (cc)) (λ (r : Among lack (sweep ++ rest)). ⊎_elim (λ (s : Among lack sweep). sweep_among (size + 1) lack sweep h s) (λ (t : Among lack rest). ⊎_elim (λ e. absurd (cc)) (λ c. ⊎_elim (λ e. absurd (cc)) (λ (d : Among lack (gift (chunk_size item) fate spare)). let e = gift_among (chunk_size item) fate spare lack d in absurd (cc)) c) t) (among_parts lack sweep rest r)) b) (among_parts lack es tail l);
         frugal = record {
           moves = caused.moves;
           grants = caused.grants;

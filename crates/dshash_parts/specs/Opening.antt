@@ -1,5 +1,5 @@
 -- How a table is made: the slices of its partitions, what was asked of the area for them, and how the partitions open.
-use Rattle.std.specs.Prelude.{◌≡◌, ℕ, zero, suc, ◌+◌, ◌<◌, ◌≤◌, ◌⊎◌, List, [], ◌∷◌, ◌++◌, replicate}
+use Rattle.std.specs.Prelude.{◌≡◌, ℕ, zero, suc, ◌+◌, ◌<◌, ◌≤◌, ◌⊎◌, Bool, List, [], ◌∷◌, ◌++◌, length, map, replicate}
 use Rattle.atomic_table.specs.Seated.{TableId}
 use Rattle.region_words.specs.declared.chunk.Chunk.{Chunk}
 use Rattle.dsa_area.specs.Sizes.{chunk_size}
@@ -26,14 +26,22 @@ abbrev pub HaveWords : TableId → List Chunk → Type 0
 HaveWords region [] = Unit {0}
 HaveWords region (c ∷ cs) = (c.part.region ≡ region) × (8 ≤ c.bytes) × HaveWords region cs
 
--- this many slices were granted, one was refused, and they went back
-abbrev pub refused_after : ℕ → ℕ → ℕ → List Request
-refused_after n pages largest = replicate n (Got 8) ++ Missed 8 pages largest ∷ replicate n (Gave (chunk_size 8))
+-- slices that go back: for each of these answers one, which the area took if the answer says so
+abbrev pub gave_slices : List Bool → List Request
+gave_slices answers = map (λ (accepted : Bool). Gave (chunk_size 8) accepted) answers
+
+-- this many slices went back
+abbrev pub GaveSlices : Area → AreaPass → AreaPass → ℕ → Type 0
+GaveSlices a p q n = (answers : List Bool) × (length answers ≡ n) × Asks a p q (gave_slices answers)
+
+-- one slice was granted for each of these answers, the next one was refused, and they went back, so answered
+abbrev pub refused_after : List Bool → ℕ → ℕ → List Request
+refused_after answers pages largest = replicate (length answers) (Got 8) ++ Missed 8 pages largest ∷ gave_slices answers
 
 -- There is no table. A slice was refused, and those that were granted went back; or there was no memory: before a slice
 -- was asked for, or when there were all 128, which are dropped
 abbrev pub IsNoTable : Area → AreaPass → AreaPass → DsNew → Type 0
-IsNoTable a p q (NoSpace pages largest) = (n : ℕ) × (n < 128) × Asks a p q (refused_after n pages largest)
+IsNoTable a p q (NoSpace pages largest) = (answers : List Bool) × (length answers < 128) × Asks a p q (refused_after answers pages largest)
 IsNoTable a p q Memory = Asks a p q [] ⊎ Asks a p q (replicate 128 (Got 8))
 
 -- the names of this many partitions from this number on, each with the state of a new one

@@ -14,7 +14,7 @@ module _ {S C R : Type 0} (number item : ℕ) (key : List ℕ) (call : C) where
   pub record AreCaused (es fs : List (Event S C R)) : Type 0 where
     pub moves : (k to left : ℕ) → Among (Turn k (Moves to) (Moved left)) fs → (size : ℕ) × HadToGrow number item key call es size × (to ≡ size + 1)
     pub grants : (bytes : ℕ) → Among (Asked (Got bytes)) fs → ((bytes ≡ item) × LackedItem number item key call es) ⊎ ((size : ℕ) × HadToGrow number item key call es size × (bytes ≡ slice_size (size + 1)))
-    pub gifts : (bytes : ℕ) → Among (Asked (Gave bytes)) fs → (bytes ≡ chunk_size item) ⊎ IsLeftOver es bytes
+    pub gifts : (bytes : ℕ) (accepted : Bool) → Among (Asked (Gave bytes accepted)) fs → (bytes ≡ chunk_size item) ⊎ IsLeftOver es bytes
 
   -- the call was not made yet, and of what the caller held first or was granted only the spare item is left, if there
   -- is one

@@ -12,6 +12,7 @@ use Rattle.lock_book.specs.Shown.{count_of, opens_of}
 use Rattle.lock_book.specs.Told.{Histories, MakesAll}
 use Rattle.region_words.specs.declared.chunk.Chunk.{Chunk}
 use Rattle.dsa_area.specs.Sizes.{chunk_size}
+use Rattle.dsa_area.specs.declared.area.Area.{Area}
 use Rattle.dshash_core.specs.Key.{hash_of}
 use Rattle.dshash_core.specs.Cells.{KeyMap, partition_of}
 use Rattle.dshash_parts.specs.States.{PartitionState, fresh}
@@ -61,6 +62,11 @@ pub record IsTable {O S C R : Type 0} (region : TableId) (t : Dshash O S C R) : 
   pub parts : (i : ℕ) → i < 128 → get_elem? (opens_of t.shelf) i ≡ some (name_in region t i, fresh)
   pub keys : (1 ≤ t.key_words) × (t.key_words ≤ 64)
   pub items : (1 ≤ t.item_bytes) × (t.item_bytes ≤ 2 ^ 30)
+
+-- The table was made with this area, so its items and slices come from it and go back to it. A table on slices that its
+-- caller brought was made with none, and then any will do
+abbrev pub IsHome : {O S C R : Type 0} → Area → Dshash O S C R → Type 0
+IsHome a t = IfSome t.home (λ h. h.value ≡ a)
 
 -- the keys of the pairs have the words of a table's keys, and belong to the partition of this number
 abbrev pub AreKeysOf : {O S C R : Type 0} → Dshash O S C R → ℕ → List (List ℕ × S) → Type 0

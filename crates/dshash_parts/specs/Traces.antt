@@ -1,5 +1,5 @@
 -- The events of a call of the table, in order: turns at partitions, and what was asked of the area.
-use Rattle.std.specs.Prelude.{◌≡◌, ℕ, ◌+◌, ◌⊎◌, ◌==◌, if◌then◌else◌, List, [], ◌∷◌, Option}
+use Rattle.std.specs.Prelude.{◌≡◌, ℕ, ◌+◌, ◌==◌, if◌then◌else◌, Bool, true, false, List, [], ◌∷◌, Option}
 use Rattle.atomic_table.specs.Seated.{TableId}
 use Rattle.lock_book.specs.declared.kept.Kept.{Ghosts}
 use Rattle.lock_book.specs.declared.shelf.Pass.{Pass}
@@ -19,18 +19,20 @@ use Rattle.dshash_parts.specs.declared.histories.PartitionCalls.{PartitionCalls}
 use Rattle.dshash_parts.specs.declared.histories.PartitionReplies.{PartitionReplies}
 use Rattle.dshash_parts.specs.declared.histories.PartitionReplies.TheVariants.{Made, HasToGrow}
 
--- what a call asks of the area: a chunk of this many bytes, which it gets or does not, and a chunk of this many that it
--- gives back
+-- What a call asks of the area: a chunk of this many bytes, which it gets or does not; and a chunk of this many that it
+-- gives back. If the answer says so, the area took that one; else the area handed it back and the call dropped it, so it is
+-- lost
 pub data Request : Type 0 where
   Got : ℕ → Request
   Missed : ℕ → ℕ → ℕ → Request
-  Gave : ℕ → Request
+  Gave : ℕ → Bool → Request
 
 -- the pass p of the area became q by it
 abbrev pub Requested : Area → AreaPass → AreaPass → Request → Type 0
 Requested a p q (Got bytes) = (at : ℕ) × IsGranted a p q bytes at
 Requested a p q (Missed bytes wanted largest) = IsRefused a p q bytes wanted largest
-Requested a p q (Gave bytes) = (at : ℕ) × (IsTakenBack a p q at bytes ⊎ IsHandedBack a p q at bytes)
+Requested a p q (Gave bytes true) = (at : ℕ) × IsTakenBack a p q at bytes
+Requested a p q (Gave bytes false) = (at : ℕ) × IsHandedBack a p q at bytes
 
 -- a turn at the partition of a number, or a request to the area
 pub data Event (S C R : Type 0) : Type 0 where
@@ -82,10 +84,10 @@ module _ {S C R : Type 0} where
   NoneMade (Turn number call (Made reply unused freed) ∷ es) = ⊥
   NoneMade (e ∷ es) = NoneMade es
 
-  -- all of these events give a chunk to the area
+  -- all of these events give a chunk to the area, which took it or did not
   abbrev pub AreGifts : List (Event S C R) → Type 0
   AreGifts [] = Unit {0}
-  AreGifts (Asked (Gave bytes) ∷ es) = AreGifts es
+  AreGifts (Asked (Gave bytes accepted) ∷ es) = AreGifts es
   AreGifts (e ∷ es) = ⊥
 
   -- of these events the turns at one partition, in order: each call with its reply

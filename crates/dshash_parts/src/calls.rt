@@ -15,7 +15,7 @@ ghost use Rattle.dsa_area.specs.Shown.{Belongs as AreaBelongs, IsArea, number_of
 ghost use Rattle.dshash_core.specs.Key.{hash_of};
 ghost use Rattle.dshash_core.specs.Cells.{IsRoomy, partition_of};
 ghost use Rattle.dshash_parts.specs.Legal.{AreAllowed};
-ghost use Rattle.dshash_parts.specs.Tables.{IsSpare, IsTable, key_words_of, item_of, map_at, size_at, Belongs};
+ghost use Rattle.dshash_parts.specs.Tables.{IsHome, IsSpare, IsTable, key_words_of, item_of, map_at, size_at, Belongs};
 ghost use Rattle.dshash_parts.specs.Traces.{sight_of};
 ghost use Rattle.dshash_parts.specs.Owners.{IsOwner, IsOwnCell};
 ghost use Rattle.dshash_parts.specs.Replays.{IsOneCell};
@@ -126,11 +126,11 @@ where
     O::Call: Send,
     O::Reply: Send,
 {
-    /// Makes a call of a key. The area is always the same one: a table does not know its area, and another one would
-    /// refuse what it did not grant, which is lost then. It takes no memory. It may wait for the lock of the key's
-    /// partition and, if that has to grow, of each partition, one after another; and for those of the area, with none
-    /// of the table's in hand. A call of a key that is there costs one hash, one walk along a chain and one turn; a new
-    /// key costs a second turn and a chunk of the area; and doubling comes at most 13 times in the life of a table.
+    /// Makes a call of a key. The area is the one that the table was made with. It takes no memory. It may wait for the
+    /// lock of the key's partition and, if that has to grow, of each partition, one after another; and for those of the
+    /// area, with none of the table's in hand. A call of a key that is there costs one hash, one walk along a chain and
+    /// one turn; a new key costs a second turn and a chunk of the area; and doubling comes at most 13 times in the life
+    /// of a table.
     pub fn call<R: Wait>(
         &self,
         rt: &R,
@@ -144,6 +144,7 @@ where
         requires table { IsTable r.now self.now }
         requires own { Belongs self.now pass.old }
         requires area { IsArea r.now area.now }
+        requires home { IsHome area.now self.now }
         requires area_own { AreaBelongs area.now apass.old }
         requires key { length key.now ≡ key_words_of self.now }
         requires may { O.may (number_of pass.old) key.now call.now }
@@ -190,6 +191,7 @@ where
         requires table { IsTable r.now self.now }
         requires own { Belongs self.now pass.old }
         requires area { IsArea r.now area.now }
+        requires home { IsHome area.now self.now }
         requires area_own { AreaBelongs area.now apass.old }
         requires spare { IsSpare r.now self.now spare.old }
         requires key { length key.now ≡ key_words_of self.now }
@@ -236,7 +238,8 @@ where
         }
     }
 
-    /// Gives the spare item of a caller back to the area, if it has one. One that the area refuses is dropped.
+    /// Gives the spare item of a caller back to the area, if it has one. One that the area refuses is dropped, and its
+    /// words are lost: `GaveBack` says which of the two it was.
     pub fn give_spare<R: Wait>(
         &self,
         rt: &R,
@@ -246,6 +249,7 @@ where
         spare: Option<Chunk>,
     )
         requires area { IsArea r.now area.now }
+        requires home { IsHome area.now self.now }
         requires area_own { AreaBelongs area.now apass.old }
         requires spare { IsSpare r.now self.now spare }
         ensures area_own { AreaBelongs area.now apass.new }

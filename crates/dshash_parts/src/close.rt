@@ -57,6 +57,7 @@ where
     {
         let Dshash {
             key_words: _,
+            home: _,
             item_bytes: _,
             shelf,
         } = self;

@@ -8,7 +8,7 @@
 //!
 //! `numbered` is the locked value, `turns` one event at it, `requests` one request to the area; `growing`, `calls`,
 //! `finding` and `taking` put these together. `trying` has the turns that will not wait. `open` and `close` are how a
-//! table begins and ends, and `listing` lists its entries.
+//! table begins and ends, `origin` is how clauses know its area, and `listing` lists its entries.
 
 #![tactic(auto)]
 
@@ -23,6 +23,7 @@ mod laws;
 mod listing;
 mod numbered;
 mod open;
+mod origin;
 mod requests;
 mod table;
 mod taking;

@@ -6,7 +6,7 @@ ghost use Rattle.lock_book.specs.Shown.{number_of, seen_of, mine_of};
 ghost use Rattle.dshash_core.specs.Listing.{pairs_of};
 ghost use Rattle.dshash_core.specs.Outcome.{ListsAll};
 ghost use Rattle.dshash_parts.specs.Asked.{listed_of};
-ghost use Rattle.dshash_parts.specs.Tables.{AreKeysOf, IsTable, Turned, map_at, Belongs};
+ghost use Rattle.dshash_parts.specs.Tables.{AreKeysOf, IsTable, Turned, item_of, map_at, Belongs};
 ghost use Rattle.dshash_parts.specs.declared.histories.PartitionCalls.TheVariants.{Lists, Looks};
 ghost use Rattle.dshash_parts.specs.declared.histories.PartitionReplies.TheVariants.{HasSize};
 
@@ -24,6 +24,13 @@ where
     O::Call: Send,
     O::Reply: Send,
 {
+    /// The bytes that are asked of the area for an item.
+    pub fn item_bytes(&self) -> u64
+        ensures { result ≡ item_of self.now }
+    {
+        self.item_bytes
+    }
+
     /// The entries of a partition, in no stated order, as they were at one event. It waits for the partition's lock,
     /// and takes memory for the entries and their keys while it has it.
     pub fn list_one<R: Wait>(

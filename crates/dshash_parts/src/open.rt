@@ -4,15 +4,15 @@ ghost use Rattle.std.specs.Prelude.{◌≡◌, ℕ, ◌≤◌, ◌^◌, [], leng
 ghost use mathlib.Core.Option.{some};
 ghost use lib.ListN.{get_elem?};
 ghost use Rattle.lock_book.specs.Shown.{mine_of, seen_of};
-ghost use Rattle.dsa_area.specs.Sizes.{chunk_size};
 ghost use Rattle.dsa_area.specs.Shown.{Belongs as AreaBelongs, IsArea, number_of as area_number};
 ghost use Rattle.dshash_core.specs.Key.{item_size};
 ghost use Rattle.dshash_parts.specs.Asked.{name_of, state_of};
-ghost use Rattle.dshash_parts.specs.Tables.{IsTable, key_words_of, item_of, AreAll, callers_of};
-ghost use Rattle.dshash_parts.specs.Traces.{Got, Gave};
-ghost use Rattle.dshash_parts.specs.Opening.{Asks, AreSlices, HaveWords, IsNoTable, opens_from};
+ghost use Rattle.dshash_parts.specs.Tables.{IsHome, IsTable, key_words_of, item_of, AreAll, callers_of};
+ghost use Rattle.dshash_parts.specs.Traces.{Got};
+ghost use Rattle.dshash_parts.specs.Opening.{Asks, AreSlices, HaveWords, GaveSlices, IsNoTable, opens_from};
 
 use crate::numbered::Numbered;
+use crate::origin::Origin;
 use crate::requests::{ask, give};
 use crate::table::{DsPass, Dshash};
 use dsa_area::{Area, AreaPass, NoSpace, chunk_bytes};
@@ -48,7 +48,7 @@ fn give_slices<R: Wait>(
     requires slices { AreSlices r.now slices.items }
     ensures own { AreaBelongs area.now apass.new }
     ensures caller { area_number apass.new ≡ area_number apass.old }
-    ensures gave { Asks area.now apass.old apass.new (replicate (length slices.items) (Gave (chunk_size 8))) }
+    ensures gave { GaveSlices area.now apass.old apass.new (length slices.items) }
 {
     while let Some(slice) = slices.pop() {
         give(rt, area, r, apass, slice);
@@ -138,6 +138,7 @@ where
         ensures area_own { AreaBelongs area.now apass.new }
         ensures area_caller { area_number apass.new ≡ area_number apass.old }
         ensures table { IfOk result (λ t. IsTable r.now t.0) }
+        ensures home { IfOk result (λ t. IsHome area.now t.0) }
         ensures keys { IfOk result (λ t. key_words_of t.0 ≡ key_words) }
         ensures items { IfOk result (λ t. item_of t.0 ≡ item_size key_words O.VALUE_WORDS) }
         ensures callers { IfOk result (λ t. callers_of t.0 ≡ callers) }
@@ -147,14 +148,16 @@ where
         ensures refused { IfErr result (λ e. IsNoTable area.now apass.old apass.new e) }
     {
         let slices = take_slices(rt, alloc, r, area, apass)?;
-        match Dshash::on_slices(alloc, r, slices, key_words, callers) {
+        let home = Origin::of(area);
+        match Dshash::with_home(alloc, r, slices, key_words, callers, Some(home)) {
             Ok(made) => Ok(made),
             Err(_) => Err(DsNew::Memory),
         }
     }
 
     /// The same on 128 slices that the caller brings, of a word each at least, which are the table's from then on. It
-    /// waits for nobody and asks nothing of any area. If there is no memory, the slices are dropped.
+    /// waits for nobody and asks nothing of any area, so later calls may bring whichever area. If there is no memory, the
+    /// slices are dropped.
     pub fn on_slices(
         alloc: Global,
         r: &Region,
@@ -173,6 +176,32 @@ where
         ensures callers { IfOk result (λ t. callers_of t.0 ≡ callers) }
         ensures passes { IfOk result (λ t. AreAll t.0 t.1.items) }
         ensures fresh { IfOk result (λ t. (k : ℕ) (p : _) → get_elem? t.1.items k ≡ some p → (i : ℕ) → (seen_of p i ≡ []) × (mine_of p i ≡ [])) }
+        ensures home { IfOk result (λ t. (area : _) → IsHome area t.0) }
+    {
+        Dshash::with_home(alloc, r, slices, key_words, callers, None)
+    }
+
+    /// The same, with what clauses see of the area that the slices are from.
+    fn with_home(
+        alloc: Global,
+        r: &Region,
+        slices: Vec<Chunk>,
+        key_words: u32,
+        callers: u32,
+        home: Option<Origin<Area>>,
+    ) -> Result<(Dshash<O>, Vec<DsPass<O>>), AllocError>
+        requires count { length slices.items ≡ 128 }
+        requires slices { HaveWords r.now slices.items }
+        requires keys { (1 ≤ key_words) × (key_words ≤ 64) }
+        requires callers { 1 ≤ callers }
+        requires values { O.VALUE_WORDS ≤ 65536 }
+        ensures table { IfOk result (λ t. IsTable r.now t.0) }
+        ensures keys { IfOk result (λ t. key_words_of t.0 ≡ key_words) }
+        ensures items { IfOk result (λ t. item_of t.0 ≡ item_size key_words O.VALUE_WORDS) }
+        ensures callers { IfOk result (λ t. callers_of t.0 ≡ callers) }
+        ensures passes { IfOk result (λ t. AreAll t.0 t.1.items) }
+        ensures fresh { IfOk result (λ t. (k : ℕ) (p : _) → get_elem? t.1.items k ≡ some p → (i : ℕ) → (seen_of p i ≡ []) × (mine_of p i ≡ [])) }
+        ensures home { IfOk result (λ t. t.0.home ≡ home) }
     {
         let item = item_bytes(key_words, O::VALUE_WORDS as u32);
         let parts = partitions::<O>(alloc, r, slices, key_words, chunk_bytes(item))?;
@@ -181,6 +210,7 @@ where
             key_words,
             item_bytes: item,
             shelf,
+            home,
         };
         Ok((table, passes))
     }

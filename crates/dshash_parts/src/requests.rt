@@ -1,22 +1,23 @@
 //! What a call asks of the area.
 
-ghost use Rattle.std.specs.Prelude.{◌≡◌, ◌≤◌, ◌^◌, IfOk, MatchResult};
+ghost use Rattle.std.specs.Prelude.{◌≡◌, ◌≤◌, ◌^◌, true, IfOk, MatchResult};
 ghost use Rattle.dsa_area.specs.Sizes.{chunk_size};
 ghost use Rattle.dsa_area.specs.Shown.{Belongs, IsArea, number_of};
-ghost use Rattle.dshash_parts.specs.Traces.{Requested, Got, Missed, Gave};
+ghost use Rattle.dshash_parts.specs.Sweeps.{GaveBack};
+ghost use Rattle.dshash_parts.specs.Traces.{Requested, Got, Missed};
 
 use dsa_area::{Area, AreaPass, NoSpace};
 use region_words::{Chunk, Region};
 use std::sync::Wait;
 
-/// Gives a chunk to the area. One that the area refuses is dropped.
+/// Gives a chunk to the area. One that the area refuses is dropped, and the event says so.
 pub(crate) fn give<R: Wait>(rt: &R, area: &Area, r: &Region, apass: &mut AreaPass, chunk: Chunk)
     requires area { IsArea r.now area.now }
     requires own { Belongs area.now apass.old }
     requires here { chunk.part.region ≡ r.now }
     ensures own { Belongs area.now apass.new }
     ensures caller { number_of apass.new ≡ number_of apass.old }
-    ensures gave { Requested area.now apass.old apass.new (Gave chunk.bytes) }
+    ensures gave { GaveBack area.now apass.old apass.new chunk.bytes true }
 {
     let _refused = area.free(rt, r, apass, chunk);
 }

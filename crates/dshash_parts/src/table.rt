@@ -5,6 +5,8 @@
 //! `specs/Tables.antt` says how the shelf of the partitions opened.
 
 use crate::numbered::Numbered;
+use crate::origin::Origin;
+use dsa_area::Area;
 use dshash_core::CellObject;
 use lock_book::{Pass, Shelf};
 
@@ -22,6 +24,8 @@ where
     pub(crate) item_bytes: u64,
     /// The 128 partitions, in order of their numbers.
     pub(crate) shelf: Shelf<Numbered<O>>,
+    /// The area that it was made with, as clauses see it; none if the caller brought the slices.
+    pub(crate) home: Option<Origin<Area>>,
 }
 
 /// One caller's token, which may go to another thread. It shows what the caller has seen of each partition, and its own

@@ -16,7 +16,7 @@ ghost use Rattle.dshash_parts.specs.Legal.{AreAllowed};
 ghost use Rattle.dshash_parts.specs.Owners.{IsOwner, IsOwnCell};
 ghost use Rattle.dshash_parts.specs.Replays.{IsOneCell};
 ghost use Rattle.dshash_parts.specs.Sweeps.{GaveBack};
-ghost use Rattle.dshash_parts.specs.Tables.{IsSpare, IsTable, Turned, item_of, key_words_of, map_at, Belongs};
+ghost use Rattle.dshash_parts.specs.Tables.{IsHome, IsSpare, IsTable, Turned, item_of, key_words_of, map_at, Belongs};
 ghost use Rattle.dshash_parts.specs.Takes.{IsTakenOut};
 ghost use Rattle.dshash_parts.specs.declared.histories.PartitionCalls.TheVariants.{Call, Looks};
 ghost use Rattle.dshash_parts.specs.declared.histories.PartitionReplies.TheVariants.{HasSize, Made};
@@ -57,6 +57,7 @@ where
         requires table { IsTable r.now self.now }
         requires own { Belongs self.now pass.old }
         requires area { IsArea r.now area.now }
+        requires home { IsHome area.now self.now }
         requires area_own { AreaBelongs area.now apass.old }
         requires number { partition < 128 }
         requires removes { AlwaysRemoves O.stepped call.now }

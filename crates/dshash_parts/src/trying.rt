@@ -1,33 +1,37 @@
 //! Calls that will not wait: each is one turn at its partition, made at once or not at all.
 //!
 //! A caller that tries brings what the turn may lack, an item for a new key or a slice for a move, so a try asks
-//! nothing of any area. If another caller has the partition, what was brought comes back, nothing was done, and the
-//! pass counts a miss (`lock_book`'s `misses_of`): a call that gives up by itself has counted none.
+//! nothing of any area; looks and listings lack nothing. If another caller has the partition, what was brought comes
+//! back, nothing was done, and the pass counts a miss (`lock_book`'s `misses_of`): a call that gives up by itself has
+//! counted none.
 
 ghost use Rattle.std.specs.Prelude.{◌≡◌, ℕ, ◌/◌, ◌<◌, ◌≤◌, false, List, length, is_some, None, IfSome, IfOk, IfErr, OnOk, OnErr};
+ghost use Rattle.std.specs.FinMap as fin;
 ghost use Rattle.lock_book.specs.Shown.{Missed, misses_of, number_of, seen_of, mine_of};
 ghost use Rattle.dsa_area.specs.Sizes.{chunk_size};
 ghost use Rattle.dshash_core.specs.Key.{hash_of};
 ghost use Rattle.dshash_core.specs.Cells.{buckets_of, partition_of};
-ghost use Rattle.dshash_core.specs.Outcome.{HandsOut};
-ghost use Rattle.dshash_parts.specs.Asked.{outcome_of};
+ghost use Rattle.dshash_core.specs.Listing.{pairs_of};
+ghost use Rattle.dshash_core.specs.Outcome.{HandsOut, ListsAll};
+ghost use Rattle.dshash_parts.specs.Asked.{listed_of, outcome_of};
 ghost use Rattle.dshash_parts.specs.Legal.{AreAllowed};
 ghost use Rattle.dshash_parts.specs.Lookups.{IsFound, KeepsCells};
 ghost use Rattle.dshash_parts.specs.Owners.{IsOwner, IsOwnCell};
 ghost use Rattle.dshash_parts.specs.Promises.{IsLastCall};
 ghost use Rattle.dshash_parts.specs.Replays.{IsOneCell};
-ghost use Rattle.dshash_parts.specs.Tables.{IsTable, Turned, item_of, key_words_of, size_at, Belongs};
+ghost use Rattle.dshash_parts.specs.Tables.{AreKeysOf, IsTable, Turned, item_of, key_words_of, map_at, size_at, Belongs};
 ghost use Rattle.dshash_parts.specs.Tries.{Tells};
 ghost use Rattle.region_words.specs.declared.chunk.Chunk.{Chunk};
-ghost use Rattle.dshash_parts.specs.declared.asks.TableAnswer.TheVariants.{Came, LeftOver};
-ghost use Rattle.dshash_parts.specs.declared.histories.PartitionCalls.TheVariants.{Call, Moves};
-ghost use Rattle.dshash_parts.specs.declared.histories.PartitionReplies.TheVariants.{Made, Moved};
+ghost use Rattle.dshash_parts.specs.declared.asks.TableAnswer.TheVariants.{Came, Entries, LeftOver, Size};
+ghost use Rattle.dshash_parts.specs.declared.histories.PartitionCalls.TheVariants.{Call, Lists, Looks, Moves};
+ghost use Rattle.dshash_parts.specs.declared.histories.PartitionReplies.TheVariants.{HasSize, Made, Moved};
 
 use crate::asks::{TableAnswer, TableAsk};
 use crate::key::Key;
 use crate::table::{DsPass, Dshash};
-use dshash_core::{CellObject, CoreOut, hash_key, partition_of_hash};
+use dshash_core::{CellObject, CoreOut, Entry, hash_key, partition_of_hash};
 use region_words::{Chunk, Region};
+use std::alloc::{AllocError, Global};
 
 /// Another caller has the partition at this moment.
 #[derive(Clone, Copy, Debug, PartialEq, Eq)]
@@ -51,6 +55,28 @@ fn left_over<O: CellObject>(answer: TableAnswer<O>) -> Chunk
 {
     match answer {
         TableAnswer::LeftOver(left) => left,
+        _ => unreachable!(),
+    }
+}
+
+/// The number of keys, of its answer.
+fn counted<O: CellObject>(answer: TableAnswer<O>) -> u64
+    requires { (size keys : ℕ) × (answer ≡ Size size keys) }
+    ensures { (size : ℕ) × (answer ≡ Size size result) }
+{
+    match answer {
+        TableAnswer::Size(_, keys) => keys,
+        _ => unreachable!(),
+    }
+}
+
+/// What became of a listing, of its answer.
+fn listed<O: CellObject>(answer: TableAnswer<O>) -> Result<Vec<Entry<O>>, AllocError>
+    requires { (entries : _) × (answer ≡ Entries entries) }
+    ensures { answer ≡ Entries result }
+{
+    match answer {
+        TableAnswer::Entries(entries) => entries,
         _ => unreachable!(),
     }
 }
@@ -159,6 +185,56 @@ where
             Ok(answer) => Ok(left_over(answer)),
             Err(TableAsk::Grow(_, slice)) => Err(slice),
             Err(_) => unreachable!(),
+        }
+    }
+
+    /// As `count_one` at once, or not if another caller has the partition.
+    pub fn try_count(&self, r: &Region, pass: &mut DsPass<O>, partition: u32) -> Result<u64, Busy>
+        requires table { IsTable r.now self.now }
+        requires own { Belongs self.now pass.old }
+        requires number { partition < 128 }
+        ensures own { Belongs self.now pass.new }
+        ensures caller { number_of pass.new ≡ number_of pass.old }
+        ensures event { IfOk result (λ keys. (size : ℕ) × Turned O.stepped pass.old pass.new partition Looks (HasSize size keys)) }
+        ensures counted { IfOk result (λ keys. keys ≡ fin.len (map_at (seen_of pass.new) partition)) }
+        ensures free { OnOk result (misses_of pass.new ≡ misses_of pass.old) }
+        ensures busy { OnErr result (Missed pass.old pass.new) }
+    {
+        match self
+            .shelf
+            .try_call(r, pass, partition as usize, TableAsk::Look)
+        {
+            Ok(answer) => Ok(counted(answer)),
+            Err(_) => Err(Busy),
+        }
+    }
+
+    /// As `list_one` at once, or not if another caller has the partition. The inner error is that there was no memory
+    /// for the entries.
+    pub fn try_list(
+        &self,
+        alloc: Global,
+        r: &Region,
+        pass: &mut DsPass<O>,
+        partition: u32,
+    ) -> Result<Result<Vec<Entry<O>>, AllocError>, Busy>
+        requires table { IsTable r.now self.now }
+        requires own { Belongs self.now pass.old }
+        requires number { partition < 128 }
+        ensures own { Belongs self.now pass.new }
+        ensures caller { number_of pass.new ≡ number_of pass.old }
+        ensures event { IfOk result (λ listed. Turned O.stepped pass.old pass.new partition Lists (listed_of (λ v. pairs_of v.items) listed)) }
+        ensures all { IfOk result (λ listed. IfOk listed (λ v. ListsAll (map_at (seen_of pass.new) partition) (pairs_of v.items))) }
+        ensures keys { IfOk result (λ listed. IfOk listed (λ v. AreKeysOf self.now partition (pairs_of v.items))) }
+        ensures free { OnOk result (misses_of pass.new ≡ misses_of pass.old) }
+        ensures busy { OnErr result (Missed pass.old pass.new) }
+    {
+        match self
+            .shelf
+            .try_call(r, pass, partition as usize, TableAsk::List(alloc))
+        {
+            Ok(answer) => Ok(listed(answer)),
+            Err(_) => Err(Busy),
         }
     }
 }

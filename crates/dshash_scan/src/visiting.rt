@@ -14,7 +14,7 @@ ghost use Rattle.dshash_core.specs.Outcome.{ListsAll};
 ghost use Rattle.dshash_parts.specs.Asked.{listed_of};
 ghost use Rattle.dshash_parts.specs.Lookups.{IsVisited, MakesNoCell};
 ghost use Rattle.dshash_parts.specs.Replays.{IsOneCell};
-ghost use Rattle.dshash_parts.specs.Tables.{AreKeysOf, IsTable, Turned, map_at, Belongs};
+ghost use Rattle.dshash_parts.specs.Tables.{AreKeysOf, IsHome, IsTable, Turned, map_at, Belongs};
 ghost use Rattle.dshash_parts.specs.declared.histories.PartitionCalls.TheVariants.{Lists};
 ghost use Rattle.dshash_parts.specs.declared.histories.PartitionReplies.TheVariants.{Listed};
 ghost use Rattle.dshash_scan.specs.Visits.{IsVisit, VisitsEach};
@@ -113,6 +113,7 @@ where
         requires table { IsTable r.now table.now }
         requires own { Belongs table.now pass.old }
         requires area { IsArea r.now area.now }
+        requires home { IsHome area.now table.now }
         requires area_own { AreaBelongs area.now apass.old }
         requires keys { AreKeysOf table.now self.old.partition self.old.left }
         requires may { (key : List ℕ) → partition_of (hash_of key) ≡ self.old.partition → O.may (number_of pass.old) key call.now }
@@ -163,6 +164,7 @@ where
     requires table { IsTable r.now table.now }
     requires own { Belongs table.now pass.old }
     requires area { IsArea r.now area.now }
+    requires home { IsHome area.now table.now }
     requires area_own { AreaBelongs area.now apass.old }
     requires number { partition < 128 }
     requires may { (key : List ℕ) → partition_of (hash_of key) ≡ partition → O.may (number_of pass.old) key call.now }

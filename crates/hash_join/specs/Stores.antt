@@ -1,7 +1,7 @@
 -- The shared table of the left rows with its area, and a participant's passes.
 use Rattle.std.specs.Prelude.{◌≡◌, ℕ, IsTrue, List, []}
 use Rattle.dsa_area.specs.Shown.{Belongs as AreaBelongs, IsArea, number_of as area_number, pages_mine}
-use Rattle.dshash_parts.specs.Tables.{Belongs as TableBelongs, IsTable, key_words_of}
+use Rattle.dshash_parts.specs.Tables.{Belongs as TableBelongs, IsHome, IsTable, key_words_of}
 use Rattle.lock_book.specs.Shown.{mine_of, number_of}
 use Rattle.scan_claim.specs.Drawing.{is_spent}
 use Rattle.scan_claim.specs.Shown.{blocks_of, draws_of, number_of as seat_number}
@@ -11,10 +11,11 @@ use Rattle.hash_join.specs.Filled.{HasPut}
 use Rattle.hash_join.specs.declared.store.Store.{Store}
 use Rattle.hash_join.specs.declared.filling.Filler.{Filler}
 
--- a table of keys of 32 words in an area of the same region
+-- a table of keys of 32 words, made with an area of the same region
 pub record IsStore (s : Store) : Type 0 where
   pub area : IsArea s.region s.area
   pub table : IsTable s.region s.table
+  pub home : IsHome s.area s.table
   pub keys : key_words_of s.table ≡ 32
 
 -- the participant's passes are of this table and its area

@@ -109,7 +109,7 @@ module _ (name : List ℕ) where
 
   gifts_put : (es : List CacheEvent) → AreGifts es → PutNone es
   gifts_put [] h = tt
-  gifts_put (Asked (Gave bytes) ∷ es) h = gifts_put es h
+  gifts_put (Asked (Gave bytes accepted) ∷ es) h = gifts_put es h
   gifts_put (Asked (Got bytes) ∷ es) h = absurd h
   gifts_put (Asked (Missed bytes wanted largest) ∷ es) h = absurd h
   gifts_put (Turn number call reply ∷ es) h = absurd h

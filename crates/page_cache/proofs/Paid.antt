@@ -69,7 +69,7 @@ none_pays t (Turn number call (Listed entries) ∷ es) h = idles t t number call
 
 gifts_pay : (t : ℕ) (es : List CacheEvent) → AreGifts es → Pays t es t
 gifts_pay t [] h = refl
-gifts_pay t (Asked (Gave bytes) ∷ es) h = (t, refl, gifts_pay t es h)
+gifts_pay t (Asked (Gave bytes accepted) ∷ es) h = (t, refl, gifts_pay t es h)
 gifts_pay t (Asked (Got bytes) ∷ es) h = absurd h
 gifts_pay t (Asked (Missed bytes wanted largest) ∷ es) h = absurd h
 gifts_pay t (Turn number call reply ∷ es) h = absurd h

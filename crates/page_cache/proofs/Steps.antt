@@ -28,25 +28,25 @@ module _ (a : Area) (n m share : ℕ) (same : m ≡ n) where
       (paid_on a n share (sight seen mine u) (sight seen' mine' w) t t (Turn number call reply ∷ []) x (sight seen' mine' w, (turn, left), refl) (t, free, refl))
 
   -- what is given back after it, if anything
-  abbrev gift : ℕ → Bool → List CacheEvent
-  gift bytes true = Asked (Gave bytes) ∷ []
-  gift bytes false = []
+  abbrev gift : (u w : AreaPass) (bytes : ℕ) (some : Bool) → GaveBack a u w bytes some → List CacheEvent
+  gift u w bytes true gave = Asked (Gave bytes gave.0) ∷ []
+  gift u w bytes false gave = []
 
-  gift_trace : (seen mine : CacheHistories) (u w : AreaPass) (bytes : ℕ) (some : Bool) → GaveBack a u w bytes some → area_number w ≡ area_number u → Trace stepped a n (sight seen mine u) (sight seen mine w) (gift bytes some)
-  gift_trace seen mine u w bytes true gave alike = (sight seen mine w, (gave, alike, refl, refl), refl)
+  gift_trace : (seen mine : CacheHistories) (u w : AreaPass) (bytes : ℕ) (some : Bool) (gave : GaveBack a u w bytes some) → area_number w ≡ area_number u → Trace stepped a n (sight seen mine u) (sight seen mine w) (gift u w bytes some gave)
+  gift_trace seen mine u w bytes true gave alike = (sight seen mine w, (gave.1, alike, refl, refl), refl)
   gift_trace seen mine u w bytes false gave alike = ap (sight seen mine) gave
 
-  gift_pays : (t bytes : ℕ) (some : Bool) → Pays t (gift bytes some) t
-  gift_pays t bytes true = (t, refl, refl)
-  gift_pays t bytes false = refl
+  gift_pays : (t : ℕ) (u w : AreaPass) (bytes : ℕ) (some : Bool) (gave : GaveBack a u w bytes some) → Pays t (gift u w bytes some gave) t
+  gift_pays t u w bytes true gave = (t, refl, refl)
+  gift_pays t u w bytes false gave = refl
 
   -- a turn by which an entry was taken out, whose item is kept; another one went back, where there was one
   pub took : (seen mine seen' mine' : CacheHistories) (u w : AreaPass) (t left number bytes : ℕ) (some : Bool) (name : List ℕ) (reply : Option Page) (page : Page) → HasPaid a n share (sight seen mine u) t
       → AtPartition stepped n seen mine seen' mine' number (Call name Evict false) (Made reply false true) → reply ≡ Some page → GaveBack a u w bytes some → area_number w ≡ area_number u → left ≡ t + 1 → HasPaid a m share (sight seen' mine' w) left
   took seen mine seen' mine' u w t left number bytes some name reply page x turn told gave alike more = stays (sight seen' mine' w) left
-      (paid_on a n share (sight seen mine u) (sight seen' mine' w) t left (Turn number (Call name Evict false) (Made (Some page) false true) ∷ gift bytes some) x
+      (paid_on a n share (sight seen mine u) (sight seen' mine' w) t left (Turn number (Call name Evict false) (Made (Some page) false true) ∷ gift u w bytes some gave) x
       (sight seen' mine' u, (subst (λ (r : Option Page). AtPartition stepped n seen mine seen' mine' number (Call name Evict false) (Made r false true)) told turn, refl), gift_trace seen' mine' u w bytes some gave alike)
-      (left, omega (arith, more), gift_pays left bytes some))
+      (left, omega (arith, more), gift_pays left u w bytes some gave))
 
   -- the events of a call that was made
   pub called : {held kept : Bool} (v w : Sight Page PageCall (Option Page)) (t u number item : ℕ) (name : List ℕ) (call : PageCall) (reply : Option Page) (es : List CacheEvent) → HasPaid a n share v t → IsMadeWith number item name call held kept reply es → Trace stepped a n v w es

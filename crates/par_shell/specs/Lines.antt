@@ -14,6 +14,7 @@ pub record IsShell (s : Shell) : Type 0 where
   pub heap : chunks.IsHeap s.region s.heap
   pub chunks : chunks.AreChunks s.region s.chunks
   pub cells : tables.IsCells s.region s.cells
+  pub home : tables.CellsFrom s.heap.area s.cells
   pub rings : rings.AreRings s.region s.rings
   pub contents : contents.IsContents s.region s.contents
   pub barriers : barriers.AreBarriers s.barriers

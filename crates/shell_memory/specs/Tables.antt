@@ -8,7 +8,7 @@ use Rattle.dshash_core.specs.Key.{packed_key}
 use Rattle.dshash_parts.specs.Opening.{Asks, IsNoTable}
 use Rattle.dshash_parts.specs.Traces.{Got}
 use Rattle.dshash_parts.specs.declared.open.DsNew.TheVariants as no_table
-use Rattle.dshash_numbers.specs.Maps.{IsMade, IsNew, IsNumberTable, IsRefused, IsTotal}
+use Rattle.dshash_numbers.specs.Maps.{ComesFrom, IsMade, IsNew, IsNumberTable, IsRefused, IsTotal}
 use Rattle.dshash_numbers.specs.declared.number.NumberCall.{NumberCall}
 use Rattle.dshash_numbers.specs.declared.number.NumberCall.TheVariants as verb
 use Rattle.dshash_numbers.specs.declared.table.NumberTable.{NumberTable}
@@ -37,6 +37,10 @@ table_of c = c.table
 -- the table, if there is one, is in the region
 abbrev pub IsCells : TableId → Cells → Type 0
 IsCells region c = IfSome c.table (IsNumberTable region)
+
+-- the table, if there is one, was made with this area
+abbrev pub CellsFrom : Area → Cells → Type 0
+CellsFrom a c = IfSome c.table (ComesFrom a)
 
 -- the key of the i-th number that `fill` puts
 abbrev pub fill_key : ℕ → List ℕ

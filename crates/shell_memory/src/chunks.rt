@@ -173,6 +173,7 @@ impl Chunks {
         requires chunks { AreChunks r.now self.old }
         requires allowed { IsAllowed (request_of command) }
         ensures heap { OnOk result (IsHeap r.now heap.new) }
+        ensures area { OnOk result (heap.new.area ≡ heap.old.area) }
         ensures chunks { OnOk result (AreChunks r.now self.new) }
         ensures answer { IfOk result (λ line. IsAnswered (request_of command.entry) heap.old heap.new self.old self.new line.items) }
     {
@@ -206,6 +207,7 @@ impl Chunks {
         requires chunks { AreChunks r.now self.old }
         requires some { (1 ≤ bytes) × (bytes ≤ 2 ^ 30) }
         ensures heap { OnOk result (IsHeap r.now heap.new) }
+        ensures area { OnOk result (heap.new.area ≡ heap.old.area) }
         ensures chunks { OnOk result (AreChunks r.now self.new) }
         ensures answer { IfOk result (λ answer. Allocates heap.old heap.new self.old self.new name.now bytes answer) }
     {
@@ -233,6 +235,7 @@ impl Chunks {
         requires heap { IsHeap r.now heap.old }
         requires chunks { AreChunks r.now self.old }
         ensures heap { OnOk result (IsHeap r.now heap.new) }
+        ensures area { OnOk result (heap.new.area ≡ heap.old.area) }
         ensures chunks { OnOk result (AreChunks r.now self.new) }
         ensures answer { IfOk result (λ answer. Frees heap.old heap.new self.old self.new name.now answer) }
     {

@@ -6,13 +6,13 @@
 ghost use Rattle.std.specs.Prelude.{◌≡◌, ◌≤◌, ℕ, IfErr, IfNone, IfOk, IfSome, None, OnOk, Option, codes, length, take};
 ghost use Rattle.atomic_table.specs.Seated.{TableId};
 ghost use Rattle.dshash_core.specs.Key.{packed_key};
-ghost use Rattle.dshash_numbers.specs.Maps.{IsMade, IsNumberTable, IsRefused};
+ghost use Rattle.dshash_numbers.specs.Maps.{ComesFrom, IsMade, IsNumberTable, IsRefused};
 ghost use Rattle.dshash_numbers.specs.declared.number.NumberCall.TheVariants as verb;
 ghost use Rattle.shell_lines.specs.TableRequests.{IsAllowed, request_of};
 ghost use Rattle.shell_memory.specs.declared.heap.Heap.{Heap};
 ghost use Rattle.shell_memory.specs.declared.table.TableAnswer.TheVariants as answer;
 ghost use Rattle.shell_memory.specs.Chunks.{IsHeap};
-ghost use Rattle.shell_memory.specs.Tables.{Fills, Gives, Goes, IsAnswered, IsCells, Opens, Sets, Totals, fill_key, one_if_new, table_of, text_of};
+ghost use Rattle.shell_memory.specs.Tables.{CellsFrom, Fills, Gives, Goes, IsAnswered, IsCells, Opens, Sets, Totals, fill_key, one_if_new, table_of, text_of};
 
 use crate::answers::{plain, with_number, with_numbers};
 use crate::heap::Heap;
@@ -93,9 +93,11 @@ impl Cells {
     ) -> Result<Vec<u8>, AllocError>
         requires heap { IsHeap r.now heap.old }
         requires cells { IsCells r.now self.old }
+        requires home { CellsFrom heap.old.area self.old }
         requires allowed { IsAllowed (request_of command) }
         ensures heap { OnOk result (IsHeap r.now heap.new) }
         ensures cells { OnOk result (IsCells r.now self.new) }
+        ensures home { OnOk result (CellsFrom heap.new.area self.new) }
         ensures answer { IfOk result (λ line. IsAnswered heap.old heap.new self.old self.new (request_of command.entry) line.items) }
     {
         match command {
@@ -127,8 +129,10 @@ impl Cells {
     ) -> Result<TableAnswer, AllocError>
         requires heap { IsHeap r.now heap.old }
         requires cells { IsCells r.now self.old }
+        requires home { CellsFrom heap.old.area self.old }
         ensures heap { OnOk result (IsHeap r.now heap.new) }
         ensures cells { OnOk result (IsCells r.now self.new) }
+        ensures home { OnOk result (CellsFrom heap.new.area self.new) }
         ensures answer { IfOk result (Opens heap.old heap.new self.old self.new) }
     {
         if self.table.is_some() {
@@ -155,9 +159,11 @@ impl Cells {
     ) -> TableAnswer
         requires heap { IsHeap r.now heap.old }
         requires cells { IsCells r.now self.old }
+        requires home { CellsFrom heap.old.area self.old }
         requires short { length key.now ≤ 64 }
         ensures heap { IsHeap r.now heap.new }
         ensures cells { IsCells r.now self.new }
+        ensures home { CellsFrom heap.new.area self.new }
         ensures answer { Goes heap.old heap.new self.old self.new (λ a n m u v. Sets a n m u v key.now value) result }
     {
         let Some(table) = &mut self.table else {
@@ -174,9 +180,11 @@ impl Cells {
     fn get<R: Wait>(&mut self, rt: &R, r: &Region, heap: &mut Heap, key: &[u8]) -> TableAnswer
         requires heap { IsHeap r.now heap.old }
         requires cells { IsCells r.now self.old }
+        requires home { CellsFrom heap.old.area self.old }
         requires short { length key.now ≤ 64 }
         ensures heap { IsHeap r.now heap.new }
         ensures cells { IsCells r.now self.new }
+        ensures home { CellsFrom heap.new.area self.new }
         ensures answer { Goes heap.old heap.new self.old self.new (λ a n m u v. Gives a n m u v key.now verb.Get) result }
     {
         match &mut self.table {
@@ -189,9 +197,11 @@ impl Cells {
     fn delete<R: Wait>(&mut self, rt: &R, r: &Region, heap: &mut Heap, key: &[u8]) -> TableAnswer
         requires heap { IsHeap r.now heap.old }
         requires cells { IsCells r.now self.old }
+        requires home { CellsFrom heap.old.area self.old }
         requires short { length key.now ≤ 64 }
         ensures heap { IsHeap r.now heap.new }
         ensures cells { IsCells r.now self.new }
+        ensures home { CellsFrom heap.new.area self.new }
         ensures answer { Goes heap.old heap.new self.old self.new (λ a n m u v. Gives a n m u v key.now verb.Delete) result }
     {
         match &mut self.table {
@@ -211,9 +221,11 @@ impl Cells {
     ) -> Result<TableAnswer, AllocError>
         requires heap { IsHeap r.now heap.old }
         requires cells { IsCells r.now self.old }
+        requires home { CellsFrom heap.old.area self.old }
         requires few { count ≤ 100000 }
         ensures heap { OnOk result (IsHeap r.now heap.new) }
         ensures cells { OnOk result (IsCells r.now self.new) }
+        ensures home { OnOk result (CellsFrom heap.new.area self.new) }
         ensures answer { IfOk result (Goes heap.old heap.new self.old self.new (λ a n m u v. Fills a n m u v count)) }
     {
         match &mut self.table {
@@ -231,6 +243,7 @@ impl Cells {
     ) -> Result<TableAnswer, AllocError>
         requires cells { IsCells r.now self.old }
         ensures cells { OnOk result (IsCells r.now self.new) }
+        ensures home { OnOk result ((area : _) → CellsFrom area self.old → CellsFrom area self.new) }
         ensures answer { IfOk result (λ answer. (h : Heap) → Goes h h self.old self.new Totals answer) }
     {
         match &mut self.table {
@@ -265,10 +278,12 @@ fn fill<R: Wait>(
 ) -> Result<TableAnswer, AllocError>
     requires heap { IsHeap r.now heap.old }
     requires table { IsNumberTable r.now table.old }
+    requires home { ComesFrom heap.old.area table.old }
     requires few { count ≤ 100000 }
     ensures heap { OnOk result (IsHeap r.now heap.new) }
     ensures area { OnOk result (heap.new.area ≡ heap.old.area) }
     ensures table { OnOk result (IsNumberTable r.now table.new) }
+    ensures home { OnOk result (ComesFrom heap.new.area table.new) }
     ensures answer { IfOk result (Fills heap.old.area table.old table.new heap.old.pass heap.new.pass count) }
 {
     let mut key = plain(alloc, "f")?;
@@ -296,10 +311,12 @@ fn put_one<R: Wait>(
 ) -> Result<u64, NoSpace>
     requires heap { IsHeap r.now heap.old }
     requires table { IsNumberTable r.now table.old }
+    requires home { ComesFrom heap.old.area table.old }
     requires short { length key.now ≤ 64 }
     ensures heap { IsHeap r.now heap.new }
     ensures area { heap.new.area ≡ heap.old.area }
     ensures table { IsNumberTable r.now table.new }
+    ensures home { ComesFrom heap.new.area table.new }
     ensures made { IfOk result (λ new. (before : Option ℕ) × (new ≡ one_if_new before) × IsMade heap.old.area table.old table.new heap.old.pass heap.new.pass (packed_key key.now) (verb.Put number) before) }
     ensures few { IfOk result (λ new. new ≤ 1) }
     ensures refused { IfErr result (λ lack. IsRefused heap.old.area table.old table.new heap.old.pass heap.new.pass (packed_key key.now) (verb.Put number) lack.pages lack.largest) }

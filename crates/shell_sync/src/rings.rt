@@ -134,6 +134,7 @@ impl Rings {
         requires rings { AreRings r.now self.old }
         requires allowed { IsAllowed (request_of command) }
         ensures heap { OnOk result (IsHeap r.now heap.new) }
+        ensures area { OnOk result (heap.new.area ≡ heap.old.area) }
         ensures rings { OnOk result (AreRings r.now self.new) }
         ensures answer { IfOk result (λ line. IsAnswered heap.old heap.new self.old self.new (request_of command.entry) line.items) }
     {
@@ -174,6 +175,7 @@ impl Rings {
         requires power { (e : ℕ) × (words ≡ 2 ^ e) × (e ≤ 20) }
         requires max { max ≤ 1048576 }
         ensures heap { OnOk result (IsHeap r.now heap.new) }
+        ensures area { OnOk result (heap.new.area ≡ heap.old.area) }
         ensures rings { OnOk result (AreRings r.now self.new) }
         ensures answer { IfOk result (λ answer. Makes heap.old heap.new self.old self.new name.now words from max answer) }
     {

@@ -2,7 +2,7 @@
 
 ghost use Rattle.std.specs.Prelude.{◌≡◌, ◌^◌, ◌<◌, ◌≤◌};
 ghost use Rattle.dsa_area.specs.Shown.{IsArea};
-ghost use Rattle.dshash_parts.specs.Tables.{IsTable, key_words_of};
+ghost use Rattle.dshash_parts.specs.Tables.{IsHome, IsTable, key_words_of};
 ghost use Rattle.uses_load.specs.Passes.{HasBoth};
 
 use crate::counts::sum_of;
@@ -43,6 +43,7 @@ fn changes<R: Wait>(
     requires table { IsTable r.now table.now }
     requires keys { key_words_of table.now ≡ 1 }
     requires area { IsArea r.now area.now }
+    requires home { IsHome area.now table.now }
     requires own { HasBoth table.now area.now passes.old }
     ensures own { HasBoth table.now area.now passes.new }
 {
@@ -72,6 +73,7 @@ fn fill<R: Wait>(
     requires table { IsTable r.now table.now }
     requires keys { key_words_of table.now ≡ 1 }
     requires area { IsArea r.now area.now }
+    requires home { IsHome area.now table.now }
     requires own { HasBoth table.now area.now passes.old }
     ensures own { HasBoth table.now area.now passes.new }
 {
@@ -93,6 +95,7 @@ fn gets<R: Wait>(
     requires table { IsTable r.now table.now }
     requires keys { key_words_of table.now ≡ 1 }
     requires area { IsArea r.now area.now }
+    requires home { IsHome area.now table.now }
     requires own { HasBoth table.now area.now passes }
     requires some { 1 ≤ keys }
     ensures { result ≤ calls }
@@ -122,6 +125,7 @@ fn sets<R: Wait>(
     requires table { IsTable r.now table.now }
     requires keys { key_words_of table.now ≡ 1 }
     requires area { IsArea r.now area.now }
+    requires home { IsHome area.now table.now }
     requires own { HasBoth table.now area.now passes }
     requires some { 1 ≤ keys }
     ensures { result ≤ calls }
@@ -161,7 +165,7 @@ pub fn gets_load<R: Threads + Wait + Sync>(
         rt,
         passes,
         &|own: Passes| -> u64
-            requires { IsTable here.now shared.now × (key_words_of shared.now ≡ 1) × IsArea here.now shared_area.now × HasBoth shared.now shared_area.now own × (1 ≤ keys) }
+            requires { IsTable here.now shared.now × (key_words_of shared.now ≡ 1) × IsArea here.now shared_area.now × IsHome shared_area.now shared.now × HasBoth shared.now shared_area.now own × (1 ≤ keys) }
         { gets(rt, shared, here, shared_area, own, calls, keys) },
     )?;
     Ok(sum_of(found.as_slice()))
@@ -191,7 +195,7 @@ pub fn sets_load<R: Threads + Wait + Sync>(
         rt,
         passes,
         &|own: Passes| -> u64
-            requires { IsTable here.now shared.now × (key_words_of shared.now ≡ 1) × IsArea here.now shared_area.now × HasBoth shared.now shared_area.now own × (1 ≤ keys) }
+            requires { IsTable here.now shared.now × (key_words_of shared.now ≡ 1) × IsArea here.now shared_area.now × IsHome shared_area.now shared.now × HasBoth shared.now shared_area.now own × (1 ≤ keys) }
         { sets(rt, shared, here, shared_area, own, calls, keys) },
     )?;
     Ok(sum_of(there.as_slice()))

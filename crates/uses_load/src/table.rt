@@ -3,15 +3,20 @@
 ghost use Rattle.std.specs.Prelude.{◌≡◌, ℕ, ◌+◌, ◌^◌, ◌<◌, ◌≤◌, length, IfOk};
 ghost use mathlib.Core.Option.{some};
 ghost use lib.ListN.{get_elem?};
+ghost use Rattle.size_classes.specs.Classes.{class_size};
+ghost use Rattle.dsa_area.specs.Sizes.{chunk_size};
 ghost use Rattle.dsa_area.specs.Shown.{Belongs as AreaBelongs, IsArea};
-ghost use Rattle.dshash_parts.specs.Tables.{IsSpare, IsTable, Belongs, key_words_of};
+ghost use Rattle.area_spares.specs.Spares.{IsSpares, class_of};
+ghost use Rattle.dshash_parts.specs.Tables.{IsHome, IsSpare, IsTable, Belongs, item_of, key_words_of};
 ghost use Rattle.uses_load.specs.Passes.{AreBoth, HasBoth};
 
 use crate::area::area_for;
 use crate::counts::sum_of;
+use area_spares::Spares;
 use dsa_area::{Area, AreaPass};
 use dshash_numbers::{Number, NumberCall};
 use dshash_parts::{DsPass, Dshash};
+use item_spares::{call_from, spares_for};
 use region_words::{Chunk, Region};
 use std::alloc::{AllocError, Global};
 use std::sync::Wait;
@@ -82,6 +87,7 @@ pub(crate) fn table_for<R: Wait>(
     requires others { others ≤ 64 }
     ensures area { IfOk result (λ t. IsArea t.0 t.1) }
     ensures table { IfOk result (λ t. IsTable t.0 t.2) }
+    ensures home { IfOk result (λ t. IsHome t.1 t.2) }
     ensures keys { IfOk result (λ t. key_words_of t.2 ≡ 1) }
     ensures first { IfOk result (λ t. HasBoth t.2 t.1 t.3) }
     ensures rest { IfOk result (λ t. AreBoth t.2 t.1 t.4.items) }
@@ -121,6 +127,7 @@ fn replies<R: Wait>(
     requires table { IsTable r.now table.now }
     requires keys { key_words_of table.now ≡ 1 }
     requires area { IsArea r.now area.now }
+    requires home { IsHome area.now table.now }
     requires own { HasBoth table.now area.now passes.old }
     requires spare { IsSpare r.now table.now spare.old }
     ensures own { HasBoth table.now area.now passes.new }
@@ -141,6 +148,47 @@ fn replies<R: Wait>(
     }
 }
 
+/// Puts a new key, whose number is the key itself, with an item of the caller's list. Says whether it was not there.
+fn puts_new<R: Wait>(
+    rt: &R,
+    table: &Dshash<Number>,
+    r: &Region,
+    area: &Area,
+    passes: &mut Passes,
+    spares: &mut Spares,
+    spare: &mut Option<Chunk>,
+    key: u64,
+) -> bool
+    requires table { IsTable r.now table.now }
+    requires keys { key_words_of table.now ≡ 1 }
+    requires area { IsArea r.now area.now }
+    requires home { IsHome area.now table.now }
+    requires own { HasBoth table.now area.now passes.old }
+    requires spares { IsSpares r.now spares.old }
+    requires size { class_size (class_of spares.old) ≡ chunk_size (item_of table.now) }
+    requires spare { IsSpare r.now table.now spare.old }
+    ensures own { HasBoth table.now area.now passes.new }
+    ensures spares { IsSpares r.now spares.new }
+    ensures same { class_of spares.new ≡ class_of spares.old }
+    ensures spare { IsSpare r.now table.now spare.new }
+{
+    match call_from(
+        rt,
+        table,
+        r,
+        area,
+        &mut passes.table,
+        &mut passes.area,
+        spares,
+        spare,
+        &[key],
+        &NumberCall::Put(key),
+    ) {
+        Ok(given) => given.is_none(),
+        Err(_) => false,
+    }
+}
+
 /// Puts the caller's next key, its `at`-th. If `most` of its keys come before that one, the first of them goes. Says
 /// whether the one was there and the other was not.
 fn put_next<R: Wait>(
@@ -149,6 +197,7 @@ fn put_next<R: Wait>(
     r: &Region,
     area: &Area,
     passes: &mut Passes,
+    spares: &mut Spares,
     spare: &mut Option<Chunk>,
     at: u64,
     most: u64,
@@ -156,10 +205,15 @@ fn put_next<R: Wait>(
     requires table { IsTable r.now table.now }
     requires keys { key_words_of table.now ≡ 1 }
     requires area { IsArea r.now area.now }
+    requires home { IsHome area.now table.now }
     requires own { HasBoth table.now area.now passes.old }
+    requires spares { IsSpares r.now spares.old }
+    requires size { class_size (class_of spares.old) ≡ chunk_size (item_of table.now) }
     requires spare { IsSpare r.now table.now spare.old }
     requires few { at < 2 ^ 32 }
     ensures own { HasBoth table.now area.now passes.new }
+    ensures spares { IsSpares r.now spares.new }
+    ensures same { class_of spares.new ≡ class_of spares.old }
     ensures spare { IsSpare r.now table.now spare.new }
 {
     let key = u64::from(passes.area.number()) * KEYS_EACH + at;
@@ -179,14 +233,15 @@ fn put_next<R: Wait>(
             return false;
         }
     }
-    let call = NumberCall::Put(key);
-    replies(rt, table, r, area, passes, spare, key, call, None)
+    puts_new(rt, table, r, area, passes, spares, spare, key)
 }
 
 /// Puts this many of the caller's own keys, of which `most` at most are there at once. The item of a key that goes is
-/// kept for the next one. Says how many were new.
+/// kept for the next one, and what is kept goes back at the end. Says how many were new, and 0 if there is no memory for a
+/// list, or one of its items does not go back.
 fn puts<R: Wait>(
     rt: &R,
+    alloc: Global,
     table: &Dshash<Number>,
     r: &Region,
     area: &Area,
@@ -197,19 +252,36 @@ fn puts<R: Wait>(
     requires table { IsTable r.now table.now }
     requires keys { key_words_of table.now ≡ 1 }
     requires area { IsArea r.now area.now }
+    requires home { IsHome area.now table.now }
     requires own { HasBoth table.now area.now passes }
     requires few { calls ≤ 2 ^ 32 }
     ensures { result ≤ calls }
 {
+    let Ok(Some(mut spares)) = spares_for(alloc, table) else {
+        return 0;
+    };
     let mut spare = None;
     let mut new = 0;
     for at in 0..calls {
-        if put_next(rt, table, r, area, &mut passes, &mut spare, at, most) {
+        if put_next(
+            rt,
+            table,
+            r,
+            area,
+            &mut passes,
+            &mut spares,
+            &mut spare,
+            at,
+            most,
+        ) {
             new += 1;
         }
     }
     table.give_spare(rt, r, area, &mut passes.area, spare);
-    new
+    match spares.give_back(rt, area, r, &mut passes.area) {
+        Ok(()) => new,
+        Err(_) => 0,
+    }
 }
 
 /// Has this many threads put this many new keys each, of which `keys` are there at once. Says how many were new.
@@ -234,8 +306,8 @@ pub fn puts_load<R: Threads + Wait + Sync>(
         rt,
         passes,
         &|own: Passes| -> u64
-            requires { IsTable here.now shared.now × (key_words_of shared.now ≡ 1) × IsArea here.now shared_area.now × HasBoth shared.now shared_area.now own × (calls ≤ 2 ^ 32) }
-        { puts(rt, shared, here, shared_area, own, calls, most) },
+            requires { IsTable here.now shared.now × (key_words_of shared.now ≡ 1) × IsArea here.now shared_area.now × IsHome shared_area.now shared.now × HasBoth shared.now shared_area.now own × (calls ≤ 2 ^ 32) }
+        { puts(rt, alloc, shared, here, shared_area, own, calls, most) },
     )?;
     Ok(sum_of(new.as_slice()))
 }

@@ -2,7 +2,7 @@
 
 ghost use Rattle.std.specs.Prelude.{◌≡◌, [], false, IfOk, IfSome};
 ghost use Rattle.dsa_area.specs.Shown.{Belongs as AreaBelongs, IsArea};
-ghost use Rattle.dshash_parts.specs.Tables.{Belongs, IsTable, key_words_of};
+ghost use Rattle.dshash_parts.specs.Tables.{Belongs, IsHome, IsTable, key_words_of};
 ghost use Rattle.mq_handle.specs.Messages.{left_of};
 ghost use Rattle.uses_start.specs.Sharing.{AreOf, AreShared};
 
@@ -70,6 +70,7 @@ fn table_for_two<R: Wait>(
     requires area_own { AreaBelongs area.now apass.old }
     ensures area_own { AreaBelongs area.now apass.new }
     ensures table { IfSome result (λ t. IsTable r.now t.0) }
+    ensures home { IfSome result (λ t. IsHome area.now t.0) }
     ensures keys { IfSome result (λ t. key_words_of t.0 ≡ 1) }
     ensures own { IfSome result (λ t. Belongs t.0 t.1 × Belongs t.0 t.2) }
 {

@@ -7,7 +7,7 @@ ghost use Rattle.dshash_core.specs.Cells.{partition_of};
 ghost use Rattle.dshash_parts.specs.Promises.{CallRefused, IsLastCall};
 ghost use Rattle.lock_book.specs.Shown.{mine_of, number_of, seen_of};
 ghost use Rattle.dsa_area.specs.Shown.{Belongs as AreaBelongs, IsArea, number_of as area_number};
-ghost use Rattle.dshash_parts.specs.Tables.{IsTable, Belongs, key_words_of};
+ghost use Rattle.dshash_parts.specs.Tables.{IsHome, IsTable, Belongs, key_words_of};
 ghost use Rattle.uses_table.specs.Texts.{after, may, owner_of, stepped};
 ghost use Rattle.uses_table.specs.Cached.{own_text, under};
 ghost use Rattle.uses_table.specs.declared.text.TextCall.TheVariants.{Remove, Set};
@@ -35,6 +35,7 @@ fn ask<R: Wait>(
     requires may { may (number_of pass.old) name.now call }
     requires owner { owner_of name.now ≡ number_of pass.old }
     requires area { IsArea r.now area.now }
+    requires home { IsHome area.now cache.now }
     requires area_own { AreaBelongs area.now apass.old }
     ensures own { Belongs cache.now pass.new }
     ensures caller { number_of pass.new ≡ number_of pass.old }
@@ -86,6 +87,7 @@ pub fn remember<R: Wait>(
     requires own { Belongs cache.now pass.old }
     requires owner { owner_of name.now ≡ number_of pass.old }
     requires area { IsArea r.now area.now }
+    requires home { IsHome area.now cache.now }
     requires area_own { AreaBelongs area.now apass.old }
     ensures own { Belongs cache.now pass.new }
     ensures caller { number_of pass.new ≡ number_of pass.old }
@@ -115,6 +117,7 @@ pub fn forget<R: Wait>(
     requires own { Belongs cache.now pass.old }
     requires owner { owner_of name.now ≡ number_of pass.old }
     requires area { IsArea r.now area.now }
+    requires home { IsHome area.now cache.now }
     requires area_own { AreaBelongs area.now apass.old }
     ensures own { Belongs cache.now pass.new }
     ensures caller { number_of pass.new ≡ number_of pass.old }
@@ -156,6 +159,7 @@ pub fn keep<R: Wait>(
     requires own { Belongs cache.now pass.old }
     requires owner { owner_of name.now ≡ number_of pass.old }
     requires area { IsArea r.now area.now }
+    requires home { IsHome area.now cache.now }
     requires area_own { AreaBelongs area.now apass.old }
     ensures own { Belongs cache.now pass.new }
     ensures caller { number_of pass.new ≡ number_of pass.old }

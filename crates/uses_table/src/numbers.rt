@@ -2,7 +2,7 @@
 
 ghost use Rattle.std.specs.Prelude.{◌≡◌, ◌≤◌, IfOk};
 ghost use Rattle.dsa_area.specs.Shown.{Belongs as AreaBelongs, IsArea};
-ghost use Rattle.dshash_numbers.specs.Maps.{IsNumberTable};
+ghost use Rattle.dshash_numbers.specs.Maps.{ComesFrom, IsNumberTable};
 
 use dsa_area::{Area, AreaPass, area_words};
 use dshash_numbers::NumberTable;
@@ -40,8 +40,10 @@ fn put_all<R: Wait>(
 ) -> (u64, u64)
     requires table { IsNumberTable r.now table.old }
     requires area { IsArea r.now area.now }
+    requires home { ComesFrom area.now table.old }
     requires own { AreaBelongs area.now apass.old }
     ensures table { IsNumberTable r.now table.new }
+    ensures home { ComesFrom area.now table.new }
     ensures own { AreaBelongs area.now apass.new }
 {
     let mut new = 0u64;

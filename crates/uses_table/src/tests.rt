@@ -4,7 +4,7 @@
 ghost use Rattle.std.specs.Prelude.{◌≡◌, ◌≤◌, IfOk};
 ghost use Rattle.lock_book.specs.Shown.{number_of};
 ghost use Rattle.dsa_area.specs.Shown.{AreAll as AreAllOfArea, Belongs as AreaBelongs, IsArea, callers_of as area_callers, number_of as area_number};
-ghost use Rattle.dshash_parts.specs.Tables.{IsTable, Belongs, key_words_of};
+ghost use Rattle.dshash_parts.specs.Tables.{IsHome, IsTable, Belongs, key_words_of};
 
 use crate::{Text, forget, keep, own_name, recall};
 use dsa_area::{Area, AreaPass, area_words};
@@ -54,6 +54,7 @@ fn cache_for_two<R: Wait>(
     ensures area { IfOk result (λ a. IsArea a.0 a.1) }
     ensures area_own { IfOk result (λ a. AreaBelongs a.1 a.3.area × AreaBelongs a.1 a.4.area) }
     ensures table { IfOk result (λ a. IsTable a.0 a.2) }
+    ensures home { IfOk result (λ a. IsHome a.1 a.2) }
     ensures keys { IfOk result (λ a. key_words_of a.2 ≡ 32) }
     ensures own { IfOk result (λ a. Belongs a.2 a.3.table × Belongs a.2 a.4.table) }
 {
@@ -88,6 +89,7 @@ fn keeps_all<R: Wait>(
     requires keys { key_words_of cache.now ≡ 32 }
     requires own { Belongs cache.now passes.table }
     requires area { IsArea r.now area.now }
+    requires home { IsHome area.now cache.now }
     requires area_own { AreaBelongs area.now passes.area }
     ensures own { Belongs cache.now result.0.table }
     ensures area_own { AreaBelongs area.now result.0.area }
@@ -126,6 +128,7 @@ fn two_callers<R: Threads + Wait + Sync>(
     requires keys { key_words_of cache.now ≡ 32 }
     requires own { Belongs cache.now zero.table × Belongs cache.now one.table }
     requires area { IsArea r.now area.now }
+    requires home { IsHome area.now cache.now }
     requires area_own { AreaBelongs area.now zero.area × AreaBelongs area.now one.area }
     ensures own { Belongs cache.now result.0.table }
     ensures area_own { AreaBelongs area.now result.0.area }

@@ -3,7 +3,7 @@
 ghost use Rattle.std.specs.Prelude.{◌≡◌, ◌≤◌, ◌++◌, ◌∷◌, [], ℕ, List, IfOk, OnOk, length};
 ghost use Rattle.lock_book.specs.Shown.{seen_of};
 ghost use Rattle.dsa_area.specs.Shown.{AreAll as AreAllOfArea, Belongs as AreaBelongs, IsArea, callers_of as area_callers};
-ghost use Rattle.dshash_parts.specs.Tables.{Belongs, IsTable, key_words_of};
+ghost use Rattle.dshash_parts.specs.Tables.{Belongs, IsHome, IsTable, key_words_of};
 ghost use Rattle.par_model.specs.declared.state.AggState.{AggState};
 ghost use Rattle.agg_cell.specs.Called.{all_combined, called_in, stands};
 
@@ -43,6 +43,7 @@ fn table_for_one<R: Wait>(
     ensures area { IfOk result (λ a. IsArea a.0 a.1) }
     ensures area_own { IfOk result (λ a. AreaBelongs a.1 a.3) }
     ensures table { IfOk result (λ a. IsTable a.0 a.2) }
+    ensures home { IfOk result (λ a. IsHome a.1 a.2) }
     ensures keys { IfOk result (λ a. key_words_of a.2 ≡ 1) }
     ensures own { IfOk result (λ a. Belongs a.2 a.4) }
 {
@@ -75,6 +76,7 @@ fn add<R: Wait>(
     requires key { length key.now ≡ key_words_of table.now }
     requires own { Belongs table.now pass.old }
     requires area { IsArea r.now area.now }
+    requires home { IsHome area.now table.now }
     requires area_own { AreaBelongs area.now apass.old }
     ensures own { Belongs table.now pass.new }
     ensures area_own { AreaBelongs area.now apass.new }
@@ -99,6 +101,7 @@ fn call_all<R: Wait>(
     requires keys { key_words_of table.now ≡ 1 }
     requires own { Belongs table.now pass.old }
     requires area { IsArea r.now area.now }
+    requires home { IsHome area.now table.now }
     requires area_own { AreaBelongs area.now apass.old }
     ensures own { Belongs table.now pass.new }
     ensures area_own { AreaBelongs area.now apass.new }

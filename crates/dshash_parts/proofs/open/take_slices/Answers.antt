@@ -30,12 +30,9 @@ loop-taken-preserved g c =
 
 pub returns-in-Err-ask-clause-refused : goal.returns-in-Err-ask-clause-refused
 returns-in-Err-ask-clause-refused g c =
-    let i = c.loop-taken.invariant in (
-      c.loop-taken._taken,
-      c.loop-taken-test.true,
-      asks_refused c.args.area.now c.args.apass.now c.loop-taken.apass c.ask.new.apass c.give_slices.new.apass c.loop-taken._taken (length c.loop-taken.slices.items) c.in-Err-ask.field-0.pages c.in-Err-ask.field-0.largest
-          i.count i.asked c.in-Err-ask.ensures.asked c.give_slices.ensures.gave,
-    )
+    let i = c.loop-taken.invariant in
+    asks_refused c.args.area.now c.args.apass.now c.loop-taken.apass c.ask.new.apass c.give_slices.new.apass c.loop-taken._taken (length c.loop-taken.slices.items) c.in-Err-ask.field-0.pages c.in-Err-ask.field-0.largest
+    i.count c.loop-taken-test.true i.asked c.in-Err-ask.ensures.asked c.give_slices.ensures.gave
 
 pub returns-clause-asked : goal.returns-clause-asked
 returns-clause-asked g c =

@@ -1,7 +1,15 @@
+use Rattle.std.proofs.Common.{List, sym, subst}
 use Rattle.dshash_core.specs.Listing.{pairs_of as entries_of}
 use Rattle.dshash_parts.specs.Ending.{whole_of}
+use Rattle.scan_claim.specs.Shown.{AreSeats}
+use Rattle.scan_claim.specs.declared.claims.ClaimSeat.{ClaimSeat}
 use Rattle.hash_join.proofs.Homes.{home_covered, home_shared}
 use Rattle.hash_join.proofs.gathering.end_round.Goals as goal
+
+pub close-drawn-requires : goal.close-drawn-requires
+close-drawn-requires g c =
+    let home = c.requires.home.1 in
+    subst (λ (seats : List ClaimSeat). AreSeats c.args.claims seats) (sym home.claims) home.all.claims
 
 pub chain_all-requires-clause-covered : goal.chain_all-requires-clause-covered
 chain_all-requires-clause-covered g c =

@@ -21,6 +21,7 @@ puts-preserved g c =
       heap = told.heap;
       area = told.area ∙ inv.area;
       table = told.table;
+      home = told.home;
       begins = c.in_ok-write_key.ensures.begins;
       puts = one-more c.args.heap.now.area p.heap.area p.made p.new c.args.table.now p.table c.put_one.new.table c.args.heap.now.pass p.heap.pass c.put_one.new.heap.pass c.as_slice.result.now (p.made + 1) inv.area key next inv.puts c.in-Ok.more told.made;
       made = omega (arith, c.puts-test.true);

@@ -19,7 +19,7 @@ loop-visit-init g c =
     let q = c.scan_one.new.pass in
     let freed = turn_freed (number_of p) c.args.partition (seen_of p) (mine_of p) (seen_of q) (mine_of q) Lists (Listed (Some c.in_ok-scan.scan.left)) e.event in
     record {
-      home = record { table = h.table; keys = h.keys; own = e.own; area = h.area; area_own = h.area_own };
+      home = record { table = h.table; keys = h.keys; own = e.own; area = h.area; home = h.home; area_own = h.area_own };
       caller = e.caller;
       area_caller = refl;
       partition = e.partition;
@@ -53,7 +53,7 @@ loop-visit-preserved g c =
     let one = length-append c.visit_next.new.self.left ((visit.key, v.state) ∷ []) in
     let all = ap length v.next in
     record {
-      home = record { table = h.table; keys = h.keys; own = e.own; area = h.area; area_own = e.area_own };
+      home = record { table = h.table; keys = h.keys; own = e.own; area = h.area; home = h.home; area_own = e.area_own };
       caller = e.caller ∙ i.caller;
       area_caller = e.area_caller ∙ i.area_caller;
       partition = here;

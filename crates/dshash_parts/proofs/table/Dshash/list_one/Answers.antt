@@ -1,26 +1,14 @@
-use Rattle.std.proofs.Common.{ℕ, List, Option, Result, Ok, Err, IfOk, refl}
-use Rattle.lock_book.specs.Told.{Histories}
+use Rattle.std.proofs.Common.{refl}
 use Rattle.dshash_core.specs.Listing.{pairs_of}
-use Rattle.dshash_core.specs.Outcome.{ListsAll}
-use Rattle.dshash_parts.specs.States.{PartitionState}
-use Rattle.dshash_parts.specs.Asked.{listed_of}
-use Rattle.dshash_parts.specs.declared.histories.PartitionCalls.{PartitionCalls}
-use Rattle.dshash_parts.specs.declared.histories.PartitionCalls.TheVariants.{Lists}
-use Rattle.dshash_parts.specs.declared.histories.PartitionReplies.{PartitionReplies}
-use Rattle.dshash_parts.proofs.Sizes.{listing_tells}
 use Rattle.lock_book.specs.Shown.{opens_of, seen_of}
-use Rattle.dshash_parts.specs.Tables.{name_in, AtPartition, map_at}
+use Rattle.dshash_parts.specs.Tables.{name_in}
 use Rattle.dshash_parts.proofs.Events.{turn}
+use Rattle.dshash_parts.proofs.Tries.{all_listed}
 use Rattle.dshash_parts.proofs.Visits.{listed_keys}
 use Rattle.dshash_parts.proofs.table.Dshash.list_one.Goals as goal
 
 pub returns-clause-event : goal.returns-clause-event
 returns-clause-event g c = turn g.O.CellObject.stepped g.O.CellObject.may (opens_of c.args.self.now.shelf) _ _ _ _ _ c.args.partition _ _ (name_in c.args.r.now c.args.self.now c.args.partition) (c.requires.table.parts c.args.partition c.requires.number) refl (c.in-Entries.ensures.own.0.stands.lawful c.args.partition _ (c.requires.table.parts c.args.partition c.requires.number)) c.in-Entries.ensures.called
-
-all_listed : {S C R V E : Type 0} (step : Option S → C → Option S × R) (pairs : V → List (List ℕ × S)) (n : ℕ) (seen mine seen' mine' : Histories (PartitionState S) (PartitionCalls C) (PartitionReplies S R)) (number : ℕ) (entries : Result V E)
-    → AtPartition step n seen mine seen' mine' number Lists (listed_of pairs entries) → IfOk entries (λ v. ListsAll (map_at seen' number) (pairs v))
-all_listed step pairs n seen mine seen' mine' number (Ok v) a = listing_tells step n seen mine seen' mine' number (pairs v) a
-all_listed step pairs n seen mine seen' mine' number (Err e) a = tt
 
 pub returns-clause-all : goal.returns-clause-all
 returns-clause-all g c = all_listed g.O.CellObject.stepped (λ v. pairs_of v.items) _ _ _ _ _ c.args.partition _ (returns-clause-event g c)

@@ -8,11 +8,11 @@ returns-clause-zero g c =
     let s = c.in_ok-region.ensures in
     let t = c.in-Ok.ensures in
     let at = c.two_of-zero.ensures.zero in
-    (record { table = t.table; keys = t.keys; own = t.passes.each 0 _ at; area = s.area; area_own = s.passes.each 0 _ c.two_of-area_zero.ensures.zero }, t.passes.numbers 0 _ at)
+    (record { table = t.table; keys = t.keys; own = t.passes.each 0 _ at; area = s.area; home = t.home; area_own = s.passes.each 0 _ c.two_of-area_zero.ensures.zero }, t.passes.numbers 0 _ at)
 
 pub returns-clause-one : goal.returns-clause-one
 returns-clause-one g c =
     let s = c.in_ok-region.ensures in
     let t = c.in-Ok.ensures in
     let at = c.two_of-zero.ensures.one in
-    (record { table = t.table; keys = t.keys; own = t.passes.each 1 _ at; area = s.area; area_own = t.area_own }, t.passes.numbers 1 _ at)
+    (record { table = t.table; keys = t.keys; own = t.passes.each 1 _ at; area = s.area; home = t.home; area_own = t.area_own }, t.passes.numbers 1 _ at)

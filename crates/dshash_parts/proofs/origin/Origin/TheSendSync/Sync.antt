@@ -1,0 +1,8 @@
+-- It owns nothing, so any thread may share it.
+use denote.RattleType.{RattleType}
+use denote.Param.Send.{IsSync, part_keyless}
+use Rattle.dshash_parts.specs.contracts.origin.Origin.{the_row}
+use Rattle.dshash_parts.proofs.origin.Origin.TheSendSync.Send.{send}
+
+pub sync : (Y : RattleType) → IsSync (the_row Y)
+sync Y = record { shared = λ d b o κ q. part_keyless (the_row Y) (send Y) q d b o }
