@@ -56,6 +56,7 @@ where
             item_bytes: site.item_bytes,
             // SAFETY: as the caller says.
             shelf: unsafe { Shelf::attach(mapping, site.shelf, callers) },
+            home: None,
         }
     }
 
