@@ -8,11 +8,11 @@
 #include <stdio.h>
 #include <stdlib.h>
 
-enum { THREADS = 4, ROUNDS = 5 };
+enum { THREADS = 4, ROUNDS = 5, ROOM = 10000 };
 
 static uint64_t keys = 50000;
 static lk_table_try handles[THREADS];
-static uint64_t taken[THREADS], put[THREADS];
+static uint64_t taken[THREADS], put[THREADS], listed[ROOM], values[ROOM];
 
 static void must(int right, const char *what, int code) {
     if (!right) {
@@ -79,7 +79,7 @@ static void in_threads(void *(*work)(void *)) {
 
 int main(int argc, char **argv) {
     if (argc > 1) keys = strtoull(argv[1], NULL, 10);
-    uint64_t words = 14 * keys + 1000, value, sum = 0, puts = 0;
+    uint64_t words = 14 * keys + 1000, value, sum = 0, puts = 0, lists = 0;
     int code = lk_table_new_try(THREADS, THREADS * words, &handles[0]);
     must(code == LK_OK, "new", code);
     for (int i = 1; i < THREADS; i++) {
@@ -93,7 +93,19 @@ int main(int argc, char **argv) {
     }
     in_threads(swap_all);
     in_threads(take_all);
+    code = lk_table_count_wait(&handles[0], &value);
+    must(code == LK_OK && value == 0, "count of no keys", code);
     in_threads(put_all);
+    code = lk_table_count_wait(&handles[0], &value);
+    must(code == LK_OK && value == keys, "count", code);
+    for (uint32_t partition = 0; partition < LK_PARTITIONS; partition++) {
+        uint64_t count = 0;
+        code = lk_table_list_wait(&handles[1], partition, listed, values, ROOM, &count);
+        must(code == LK_OK, "list", code);
+        for (uint64_t n = 0; n < count; n++) must(values[n] < THREADS, "list: a value", (int)values[n]);
+        lists += count;
+    }
+    must(lists == keys, "keys that were listed", (int)lists);
     for (int i = 0; i < THREADS; i++) puts += put[i];
     must(puts == keys, "keys that were put in", (int)puts);
     for (uint64_t n = 0; n < keys; n++) {

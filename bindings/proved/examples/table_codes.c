@@ -73,6 +73,32 @@ int main(void) {
         IS(old, key);
     }
 
+
+    /* All keys, partition by partition: 1, 2 and those from 100 to 199, each once. */
+    uint64_t keys[64], values[64], count, counted = 0, listed = 0, sum = 0;
+    IS(lk_table_count_try(&one, 128, &count), LK_BAD_SIZE);
+    IS(lk_table_list_try(&one, 128, keys, values, 64, &count), LK_BAD_SIZE);
+    for (uint32_t partition = 0; partition < LK_PARTITIONS; partition++) {
+        IS(lk_table_count_try(&one, partition, &count), LK_OK);
+        counted += count;
+        if (count > 0) IS(lk_table_list_try(&two, partition, keys, values, count - 1, &count), LK_SHORT_BUFFER);
+        keys[count] = values[count] = 7;
+        IS(lk_table_list_try(&two, partition, keys, values, 64, &count), LK_OK);
+        IS(keys[count], 7);
+        IS(values[count], 7);
+        for (uint64_t n = 0; n < count; n++) {
+            IS(lk_table_get_try(&one, keys[n], &old), LK_OK);
+            IS(values[n], old);
+            sum += keys[n];
+        }
+        listed += count;
+    }
+    IS(counted, 102);
+    IS(listed, 102);
+    IS(sum, 14953);
+    IS(lk_table_count_wait(&two, &count), LK_OK);
+    IS(count, 102);
+
     IS(lk_table_close_try(&two), LK_OK);
     IS(lk_table_close_try(&two), LK_NULL);
     IS(lk_table_get_try(&one, 1, &old), LK_OK);
