@@ -384,7 +384,8 @@ typedef struct lk_table_try {
     uint64_t full;
 } lk_table_try;
 
-/* What liblk_table.a exports. Each pointer has to be good, and the two handles of lk_raw_table_share have to differ. */
+/* What liblk_table.a exports. Each pointer has to be good, the two handles of lk_raw_table_share have to differ, and what
+ * lk_raw_table_list writes has to lie apart: both rows and the count. */
 int32_t lk_raw_table_new(uint32_t callers, uint64_t words, lk_table_try *first);
 int32_t lk_raw_table_share(uint64_t words, lk_table_try *from, lk_table_try *next);
 int32_t lk_raw_table_put(lk_table_try *table, uint64_t key, uint64_t word, uint64_t *old);
@@ -458,8 +459,8 @@ static inline int lk_table_count_try(lk_table_try *table, uint32_t partition, ui
 }
 
 /* LK_OK: keys[0 .. *count] are the keys of a partition, in no order, and values[0 .. *count] their values, all as they were at
- * one moment. LK_SHORT_BUFFER: the rows have no room for that many, and nothing was written to them. LK_WOULD_BLOCK, LK_BAD_SIZE;
- * LK_NO_MEMORY: the entries are gathered in memory of the library's first. */
+ * one moment. The rows have `room` values each, and lie apart. LK_SHORT_BUFFER: they have no room for *count, and nothing was
+ * written to them. LK_WOULD_BLOCK, LK_BAD_SIZE; LK_NO_MEMORY: the library takes memory for the entries first. */
 static inline int lk_table_list_try(lk_table_try *table, uint32_t partition, uint64_t *keys, uint64_t *values, size_t room, uint64_t *count) {
     uint64_t none = 0;
     if (!table || !count || ((!keys || !values) && room)) return LK_NULL;
