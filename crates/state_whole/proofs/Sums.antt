@@ -5,7 +5,7 @@ use Rattle.partial_agg.specs.Groups.{GroupsByKey}
 use Rattle.partial_agg.specs.Listed.{listed}
 use Rattle.partial_agg.specs.declared.groups.Group.{Group as MapGroup}
 use Rattle.state_blocks.specs.Blocks.{Group}
-use Rattle.state_body.specs.Body.{IsBody, body_bytes, groups_of}
+use Rattle.state_body.specs.Body.{groups_of}
 use Rattle.state_head.specs.Head.{Preface}
 use Rattle.state_head.specs.Words.{Keys}
 use Rattle.state_head.specs.declared.cover.Stretch.{Stretch}

@@ -1,5 +1,5 @@
 -- In what a file differs from the first one.
-use Rattle.std.specs.Prelude.{◌≡◌, ◌≢◌}
+use Rattle.std.specs.Prelude.{◌≢◌}
 use Rattle.state_head.specs.Head.{Subject}
 use Rattle.state_head.specs.Words.{Keys}
 use Rattle.state_whole.specs.declared.alike.OtherFile.{OtherFile}

@@ -2,7 +2,6 @@
 use Rattle.std.specs.Prelude.{◌≡◌, ◌<◌, ◌≤◌, ◌^◌, ◌++◌, ◌∷◌, ◌||◌, [], ℕ, Bool, true, false, List, All, length, map}
 use Rattle.partial_agg.specs.Groups.{GroupsByKey}
 use Rattle.partial_agg.specs.Listed.{listed}
-use Rattle.partial_agg.specs.declared.groups.Group.{Group as MapGroup}
 use Rattle.state_blocks.specs.Blocks.{Group}
 use Rattle.state_body.specs.Body.{IsBody, body_bytes, groups_of}
 use Rattle.state_body.specs.Faults.{IsNoBody}

@@ -1,3 +1,3 @@
 mod Cuts
 pub mod Laws
-mod Long
+pub mod Long

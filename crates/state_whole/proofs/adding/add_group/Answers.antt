@@ -1,9 +1,9 @@
-use Rattle.std.proofs.Common.{◌≡◌, ◌<◌, ◌≤◌, ◌+◌, ◌++◌, ◌∙◌, ◌∷◌, [], ℕ, List, ap, arith, length, length-append, map, refl, subst, sym, take}
+use Rattle.std.proofs.Common.{◌≡◌, ◌+◌, ◌++◌, ◌∙◌, ◌∷◌, [], ℕ, List, ap, arith, length, length-append, map, refl, subst, sym, take}
 use Rattle.std.proofs.lemmas.Result.{err_from_is_err_and}
 use Rattle.par_model.specs.declared.state.AggState.{AggState}
 use Rattle.par_model.specs.declared.state.SlotState.{SlotState}
-use Rattle.partial_agg.specs.Groups.{GroupsByKey, added}
-use Rattle.state_blocks.specs.Blocks.{Group, tuple_bytes}
+use Rattle.partial_agg.specs.Groups.{added}
+use Rattle.state_blocks.specs.Blocks.{tuple_bytes}
 use Rattle.state_blocks.proofs.Tuples.{made_of, tuple_read, tuple_some, tuple_written}
 use Rattle.state_lanes.specs.Lanes.{item_slots}
 use Rattle.state_order.specs.Order.{HasKeys}

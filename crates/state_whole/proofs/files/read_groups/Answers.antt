@@ -1,6 +1,4 @@
-use Rattle.std.proofs.Common.{◌≡◌, ◌<◌, ◌∙◌, ℕ, Bool, List, ap, length, subst, sym}
-use Rattle.state_body.specs.Body.{groups_of}
-use Rattle.state_head.specs.declared.cover.Stretch.{Stretch}
+use Rattle.std.proofs.Common.{◌<◌, ℕ, subst, sym}
 use Rattle.state_whole.specs.Sums.{HasRefused}
 use Rattle.state_whole.proofs.files.read_groups.Goals as goal
 

@@ -1,4 +1,4 @@
-use Rattle.std.proofs.Common.{◌≤◌, ◌+◌, arith}
+use Rattle.std.proofs.Common.{◌+◌, arith}
 use Rattle.partial_agg.specs.Listed.{listed}
 use Rattle.state_whole.proofs.Bounds.{bound_more, past}
 use Rattle.state_whole.proofs.rows.bounded.Goals as goal

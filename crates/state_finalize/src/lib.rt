@@ -1,0 +1,7 @@
+//! What the files of all parts come to: the text of the table, or the first refused row.
+
+#![tactic(auto)]
+
+mod finishing;
+
+pub use finishing::{FinishFault, Finished, finish};

@@ -1,0 +1,2 @@
+pub mod FilePlans
+pub mod Words

@@ -1,0 +1,114 @@
+//! The plan of a head, and what the tuples of its file are of.
+
+ghost use Rattle.std.specs.Prelude.{◌≡◌, IfErr, IfOk, length};
+ghost use Rattle.csv_rows.specs.Records.{records_of};
+ghost use Rattle.state_head.specs.Head.{Subject, subject_of};
+ghost use Rattle.state_head.specs.Words.{words_of};
+ghost use Rattle.state_plan.specs.FilePlans.{AskFor, HasNoPlan, HaveNoQuery, IsNoHeader, IsPlanOf};
+ghost use Rattle.state_plan.specs.declared.file_plan.PlanFault.TheVariants as fault;
+ghost use Rattle.state_whole.specs.Adding.{IsShape, IsShapeOf};
+
+use crate::words::command_words;
+use csv_rows::{RowStore, RowsAnswer, rows};
+use par_model::BoundPlan;
+use plan_spec::{Plan, PlanAnswer};
+use state_head::{PlanWords, Whole};
+use state_lanes::{Lane, kinds_of, lanes_of};
+use state_whole::Shape;
+use std::alloc::{AllocError, Global};
+
+/// Why a head has no plan: memory ran out; its words are no words of one; its header is not one record; the header lacks a column.
+#[derive(Clone, Copy, Debug, PartialEq, Eq)]
+pub enum PlanFault {
+    Memory,
+    Words,
+    Header,
+    Column,
+}
+
+impl From<AllocError> for PlanFault {
+    ghost from_gives = { λ _ e. e ≡ fault.Memory };
+
+    fn from(_error: AllocError) -> PlanFault {
+        PlanFault::Memory
+    }
+}
+
+/// A plan, the same over the columns of a header, the lanes of its aggregates, and which of these have numbers.
+#[derive(Drop)]
+pub struct FilePlan {
+    pub plan: Plan,
+    pub bound: BoundPlan,
+    pub lanes: Vec<Lane>,
+    pub kinds: Vec<bool>,
+}
+
+impl FilePlan {
+    /// The plan that a head names. It takes memory for the header's record and the plan's names.
+    pub fn of_whole(alloc: Global, whole: Whole<'_>) -> Result<FilePlan, PlanFault>
+        ensures plan { IfOk result (IsPlanOf (subject_of whole.entry)) }
+
+        // When each error comes.
+        ensures refused { IfErr result (HasNoPlan (subject_of whole.entry)) }
+    {
+        let plan = plan_of(alloc, whole.words)?;
+        let header = header_of(alloc, whole.header)?;
+        let Ok(bound) = plan.bind(&header) else {
+            return Err(PlanFault::Column);
+        };
+        let lanes = lanes_of(alloc, bound.items())?;
+        let kinds = kinds_of(alloc, lanes.as_slice())?;
+        Ok(FilePlan {
+            plan,
+            bound,
+            lanes,
+            kinds,
+        })
+    }
+
+    /// What the tuples of a file of this plan are of.
+    pub fn shape(&self) -> Shape<'_>
+        ensures of_plan { (s : Subject) → IsPlanOf s self.now → IsShapeOf self.now.bound result }
+        ensures fits { (s : Subject) → IsPlanOf s self.now → IsShape result }
+    {
+        Shape {
+            columns: self.bound.group_columns().len() as u32,
+            lanes: self.lanes.as_slice(),
+            kinds: self.kinds.as_slice(),
+            items: self.bound.items(),
+        }
+    }
+}
+
+/// The plan of some words.
+fn plan_of(alloc: Global, words: PlanWords<'_>) -> Result<Plan, PlanFault>
+    ensures plan { IfOk result (AskFor (words_of words.entry)) }
+    ensures refused { IfErr result (HaveNoQuery (words_of words.entry)) }
+{
+    let Some(command) = command_words(alloc, words)? else {
+        return Err(PlanFault::Words);
+    };
+    match Plan::of_stream_words(alloc, command.as_slice()) {
+        Ok(plan) => Ok(plan),
+        Err(PlanAnswer::Memory) => Err(PlanFault::Memory),
+        Err(PlanAnswer::Usage) => Err(PlanFault::Words),
+    }
+}
+
+/// The record that some bytes are, if they are one.
+fn header_of(alloc: Global, bytes: &[u8]) -> Result<RowStore, PlanFault>
+    ensures one { IfOk result (λ header. (header ≡ records_of bytes.now) × (length header ≡ 1)) }
+    ensures refused { IfErr result (IsNoHeader bytes.now) }
+{
+    match rows(alloc, bytes) {
+        Ok(header) => {
+            if header.count() == 0 {
+                Ok(header)
+            } else {
+                Err(PlanFault::Header)
+            }
+        }
+        Err(RowsAnswer::NoHeader | RowsAnswer::TooManyRows) => Err(PlanFault::Header),
+        Err(RowsAnswer::Memory) => Err(PlanFault::Memory),
+    }
+}

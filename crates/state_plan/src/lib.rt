@@ -1,0 +1,9 @@
+//! The plan that the head of a file of partial states names: that of its words, over the columns of its header.
+
+#![tactic(auto)]
+
+mod file_plan;
+mod words;
+
+pub use file_plan::{FilePlan, PlanFault};
+pub use words::command_words;

@@ -1,0 +1,4 @@
+mod Files
+mod Pushed
+mod Rising
+mod Slots
