@@ -8,6 +8,8 @@ mod blocks;
 #[cfg(test)]
 mod covers;
 #[cfg(test)]
+mod files;
+#[cfg(test)]
 mod fronts;
 #[cfg(test)]
 mod groups;

@@ -1,0 +1,156 @@
+-- What files come to.
+use Rattle.std.proofs.Common.{◌≡◌, ◌++◌, ◌∙◌, ◌⊎◌, inl, inr, ℕ, zero, suc, List, [], ◌∷◌, All, ap, append-nil, arith, drop, length, refl, subst, sym}
+use Rattle.std.specs.FinMap as fin
+use Rattle.std.proofs.lemmas.List.{length-map}
+use Rattle.std.proofs.lemmas.List.Elements.{All-append, All-cons, All-head, All-nil, All-tail}
+use Rattle.std.proofs.lemmas.List.Sorted.{length_permutation}
+use Rattle.csv_rows.specs.Records.{records_of}
+use Rattle.par_model.specs.Named.{bound_item}
+use Rattle.par_model.specs.Outcome.{IsAnswer}
+use Rattle.partial_agg.specs.Groups.{AreGroups}
+use Rattle.partial_agg.specs.Listed.{listed}
+use Rattle.part_law.proofs.OneText.{answers_agree}
+use Rattle.result_text.proofs.Answering.{answers}
+use Rattle.row_blocks.specs.Blocks.{Table}
+use Rattle.row_blocks.proofs.Elements.{All-apart}
+use Rattle.row_windows.specs.Seams.{BeginsLine}
+use Rattle.row_windows.proofs.Seams.{records_add_up}
+use Rattle.state_blocks.specs.Blocks.{Group}
+use Rattle.state_head.specs.declared.cover.Place.{Place}
+use Rattle.state_head.specs.declared.cover.Rows.{Rows}
+use Rattle.state_head.specs.declared.cover.Rows.TheVariants.{Counted, Refused}
+use Rattle.state_head.specs.declared.cover.Stretch.{Stretch}
+use Rattle.state_lanes.specs.Rows.{LanesComeBack, RowsAreTold}
+use Rattle.state_load.specs.Loading.{stretches_of, sum_of}
+use Rattle.state_total.specs.Total.{AreCounted, IsCounted}
+use Rattle.state_whole.specs.Files.{StateFile, tuples_in}
+use Rattle.state_law.specs.Law.{CombinedIsTrue, RowIsFirst, SourcesAreHeaded, TextAnswers, TextsAgree, TileIsTrue, WholeIsTrue, with_header}
+use Rattle.state_law.specs.Sources.{IsTile, Work, all_rows, bytes_at, plan_in, rows_at, rows_in, text_of, whole_place, width_in, without_header}
+use Rattle.state_law.specs.Truth.{AreRowTuples, AreTold, AreTuplesBeside, IsReadOf, IsTrue, IsTrueOf}
+use Rattle.state_law.proofs.Groups.{counted_accepted, short_keys, sum_is_groups}
+use Rattle.state_law.proofs.Joins.{are_covered}
+use Rattle.state_law.proofs.Tiles.{whole_bytes}
+use Rattle.state_law.proofs.Wholes.{first_is_first, whole_is_all, whole_is_headed}
+
+-- ---- one reading
+
+module _ (w : Work) where
+  counted_tuples : (rows : Table) (told : Rows) (tuples : List Group) → AreTuplesBeside (plan_in w) rows told tuples → AreCounted told → AreRowTuples (plan_in w) rows tuples
+  counted_tuples rows (Counted many) tuples are counted = are
+  counted_tuples rows (Refused why) tuples are counted = absurd counted
+
+  no_tuples : (rows : Table) (told : Rows) (tuples : List Group) → AreTuplesBeside (plan_in w) rows told tuples → (AreCounted told → ⊥) → tuples ≡ []
+  no_tuples rows (Counted many) tuples are refused = absurd (refused tt)
+  no_tuples rows (Refused why) tuples are refused = are
+
+  read_true : (p : Place) (bytes : List ℕ) (f : StateFile) (r : IsReadOf w.names w.header p bytes f) → IsTile w p → rows_at w p ≡ r.rows → IsTrueOf w f
+  read_true p bytes f r tile rows =
+      let s : Stretch = record { place = p; rows = r.told } in
+      let told : AreTold (plan_in w) (width_in w) (rows_at w p) r.told = subst (λ (l : Table). AreTold (plan_in w) (width_in w) l r.told) (sym rows) r.are_told in
+      let all : rows_in w f.preface.cover ≡ r.rows = ap (rows_in w) r.cover ∙ append-nil (rows_at w p) ∙ rows in
+      record {
+        each = subst (All (IsTrue w)) (sym r.cover) (All-cons (IsTrue w) s [] (record { is_tile = tile; are_told = told }) (All-nil (IsTrue w)));
+        counted = λ is.
+            let here = All-head IsCounted s [] (subst (All IsCounted) r.cover is) in
+            subst (λ (l : Table). AreRowTuples (plan_in w) l (tuples_in f)) (sym all) (counted_tuples r.rows r.told (tuples_in f) r.tuples here);
+        refused = λ is. no_tuples r.rows r.told (tuples_in f) r.tuples (λ here. is (subst (All IsCounted) (sym r.cover) (All-cons IsCounted s [] here (All-nil IsCounted))));
+      }
+
+  -- the records of a whole source
+  whole_records : (source : ℕ) → records_of (bytes_at w (whole_place source (text_of w source))) ≡ records_of (text_of w source)
+  whole_records source = ap records_of (whole_bytes (text_of w source))
+
+pub whole_is_true : WholeIsTrue
+whole_is_true w source f r =
+    let t = text_of w source in
+    let p = whole_place source t in
+    let rows : rows_at w p ≡ r.rows = ap (λ (l : Table). drop 1 l) (whole_records w source ∙ r.records) in
+    let tile : IsTile w p = record {
+      size = refl;
+      order = omega arith;
+      within = omega arith;
+      begins = inl refl;
+      ends = inl refl;
+      headed = λ start. whole_records w source ∙ r.records ∙ ap (λ (l : Table). w.header ∷ l) (sym rows);
+    } in
+    read_true w p t f r tile rows
+
+pub tile_is_true : TileIsTrue
+tile_is_true w header p f one cut tile r = read_true w p (with_header p.from header (bytes_at w p)) f r tile (go p.from refl r.records)
+  where
+    begins : (p.from ≡ 0) ⊎ BeginsLine (bytes_at w p) → (from : ℕ) → p.from ≡ suc from → BeginsLine (bytes_at w p)
+    begins (inl start) from at = absurd (omega (arith, start, at))
+    begins (inr is) from at = is
+
+    go : (from : ℕ) → p.from ≡ from → records_of (with_header from header (bytes_at w p)) ≡ w.header ∷ r.rows → rows_at w p ≡ r.rows
+    go zero at records = ap (λ (n : ℕ). without_header n (records_of (bytes_at w p))) at ∙ ap (λ (l : Table). drop 1 l) records
+    go (suc from) at records =
+        let both = records_add_up header (bytes_at w p) (record { whole = cut; line = begins tile.begins from at }) in
+        ap (λ (n : ℕ). without_header n (records_of (bytes_at w p))) at
+        ∙ ap (λ (l : Table). drop 1 (l ++ records_of (bytes_at w p))) (sym one)
+        ∙ sym (ap (λ (l : Table). drop 1 l) both)
+        ∙ ap (λ (l : Table). drop 1 l) records
+
+-- ---- several files
+
+module _ (w : Work) where
+  stretches_true : (files : List StateFile) → All (IsTrueOf w) files → All (IsTrue w) (stretches_of files)
+  stretches_true [] all = All-nil (IsTrue w)
+  stretches_true (f ∷ files) all =
+      All-append (IsTrue w) f.preface.cover (stretches_of files) (All-head (IsTrueOf w) f files all).each (stretches_true files (All-tail (IsTrueOf w) f files all))
+
+  abbrev HaveRowTuples : StateFile → Type 0
+  HaveRowTuples f = AreRowTuples (plan_in w) (rows_in w f.preface.cover) (tuples_in f)
+
+  all_tuples : (files : List StateFile) → All (IsTrueOf w) files → All IsCounted (stretches_of files) → All HaveRowTuples files
+  all_tuples [] all counted = All-nil HaveRowTuples
+  all_tuples (f ∷ files) all counted =
+      let apart = All-apart IsCounted f.preface.cover (stretches_of files) counted in
+      All-cons HaveRowTuples f files ((All-head (IsTrueOf w) f files all).counted apart.0)
+      (all_tuples files (All-tail (IsTrueOf w) f files all) apart.1)
+
+pub combined_is_true : RowsAreTold → LanesComeBack → CombinedIsTrue
+combined_is_true told back w files f all few one =
+    let stretches = stretches_of files in
+    let covered = are_covered w stretches f.preface.cover one.is.join (stretches_true w files all) in
+    let size = length_permutation (rows_in w stretches) (rows_in w f.preface.cover) covered.rows in
+    record {
+      each = covered.each;
+      counted = λ is. record {
+        shape = one.shape;
+        is_shape = one.is_shape;
+        groups = sum_of one.shape fin.empty files;
+        are_groups = sum_is_groups (plan_in w) one.shape one.is_shape told back w (width_in w) files (rows_in w f.preface.cover) (all_tuples w files all (covered.counted is)) covered.rows (counted_accepted w f.preface.cover covered.each is)
+            (omega (arith, size, few));
+        are = one.is.counted is;
+      };
+      refused = one.is.refused;
+    }
+
+pub text_answers : RowsAreTold → LanesComeBack → TextAnswers
+text_answers told back w files text all few items come =
+    let stretches = stretches_of files in
+    let sum = sum_of come.shape fin.empty files in
+    let covered = are_covered w stretches come.cover come.is_whole.join (stretches_true w files all) in
+    let rows : rows_in w come.cover ≡ all_rows w = whole_is_all w come.cover come.is_whole.whole.0 come.is_whole.whole.1 covered.each in
+    let accepted = counted_accepted w come.cover covered.each come.counted in
+    let same = ap (λ (l : Table). length l) rows in
+    let groups : AreGroups (plan_in w) (rows_in w come.cover) sum =
+    sum_is_groups (plan_in w) come.shape come.is_shape told back w (width_in w) files (rows_in w come.cover) (all_tuples w files all (covered.counted come.counted)) covered.rows accepted (omega (arith, same, few)) in
+    let answer = answers w.names (plan_in w) (listed sum) text w.header (rows_in w come.cover) sum come.is (short_keys (plan_in w) (width_in w) (rows_in w come.cover) sum accepted groups)
+    (omega (arith, length-map w.names.items (bound_item w.header), items)) refl groups refl in
+    subst (λ (l : Table). IsAnswer w.names (w.header ∷ l) text) rows answer
+
+pub sources_are_headed : SourcesAreHeaded
+sources_are_headed w files cover all whole k lt =
+    let covered = are_covered w (stretches_of files) cover whole.join (stretches_true w files all) in
+    let many = whole.whole.1 in
+    whole_is_headed w cover whole.whole.0 covered.each k (omega (arith, lt, many))
+
+pub texts_agree : TextAnswers → TextsAgree
+texts_agree answered w files others text other one two few items come came = answers_agree w.names (w.header ∷ all_rows w) text other (answered w files text one few items come) (answered w others other two few items came)
+
+pub row_is_first : RowIsFirst
+row_is_first w files found all come =
+    let covered = are_covered w (stretches_of files) come.cover come.is_whole.join (stretches_true w files all) in
+    first_is_first w come.cover found come.is_whole.whole.0 come.is_whole.whole.1 covered.each come.first

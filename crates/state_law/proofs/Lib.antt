@@ -1,0 +1,9 @@
+mod Blank
+mod Cuts
+mod FirstRows
+mod Groups
+mod Joins
+mod Laws
+mod Tiles
+mod Trees
+mod Wholes

@@ -1,0 +1,5 @@
+pub mod Sources
+pub mod Truth
+pub mod Law
+pub mod Made
+pub mod Trees
