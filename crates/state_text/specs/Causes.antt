@@ -67,7 +67,7 @@ abbrev pub file_text : FileFault → List ℕ
 file_text file.Memory = memory_text
 file_text (file.Body why) = body_text why
 file_text (file.Group why) = group_text why
-file_text file.Refused = codes "tuples beside a refused row"
+file_text file.Refused = codes "tuples and a refused row"
 file_text file.Rows = codes "a group has too many rows"
 
 -- of what it says otherwise than the first one

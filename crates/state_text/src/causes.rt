@@ -29,7 +29,7 @@ fn file_pieces<'a>(why: FileFault, digits: &'a mut itoa::Buffer) -> [&'a str; 3]
         FileFault::Memory => plain("out of memory"),
         FileFault::Body { why } => body_pieces(why, digits),
         FileFault::Group { why } => group_pieces(why, digits),
-        FileFault::Refused => plain("tuples beside a refused row"),
+        FileFault::Refused => plain("tuples and a refused row"),
         FileFault::Rows => plain("a group has too many rows"),
     }
 }

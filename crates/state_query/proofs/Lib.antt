@@ -1,0 +1,7 @@
+mod Ends
+mod Keys
+mod Known
+mod Loads
+mod Pieces
+mod Statuses
+mod Sums

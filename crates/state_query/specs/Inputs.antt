@@ -1,0 +1,94 @@
+-- What the bytes of an input are, and what they come to.
+use Rattle.std.specs.Prelude.{◌≡◌, ◌<◌, ℕ, List, All, None, length}
+use Rattle.std.specs.FinMap as map
+use Rattle.csv_rows.specs.Records.{records_of}
+use Rattle.par_model.specs.Named.{bound_plan, missing_name}
+use Rattle.par_model.specs.Plan.{Plan}
+use Rattle.partial_agg.specs.Groups.{GroupsByKey}
+use Rattle.plan_spec.specs.Query.{Query}
+use Rattle.state_combine.specs.Combined.{IsCombined}
+use Rattle.partial_agg.specs.Listed.{listed}
+use Rattle.result_text.specs.Text.{IsTextOf}
+use Rattle.state_head.specs.Head.{Subject, subject_of}
+use Rattle.state_head.specs.Words.{Keys, keys_of}
+use Rattle.state_load.specs.Loading.{AreParts, files_bytes, stretches_of, sum_of}
+use Rattle.state_plan.specs.FilePlans.{AskFor, IsPlanOf, header_of}
+use Rattle.state_total.specs.Total.{IsCounted, IsFirstRefused, IsWholeCover}
+use Rattle.state_total.specs.declared.total.FirstRefused.{FirstRefused}
+use Rattle.state_head.specs.declared.cover.Stretch.{Stretch}
+use Rattle.state_whole.specs.Adding.{IsShapeOf}
+use Rattle.state_whole.specs.Files.{StateFile, file_bytes}
+use Rattle.state_whole.specs.Sums.{AreSummed}
+use Rattle.state_whole.specs.declared.adding.Shape.{Shape}
+use Rattle.state_query.specs.declared.input.Loaded.{Loaded}
+
+-- files of one query: what all of them say alike, the query, what their tuples are of, the files
+pub record Input : Type 0 where
+  pub subject : Subject
+  pub keys : Keys
+  pub query : Query
+  pub shape : Shape
+  pub files : List StateFile
+
+-- the plan over the columns of the header
+abbrev pub bound_of : Input → Plan
+bound_of i = bound_plan (header_of i.subject) i.query.plan
+
+-- the groups of all files, added up
+abbrev pub groups_in : Input → GroupsByKey
+groups_in i = sum_of i.shape map.empty i.files
+
+-- bytes are some files of one query
+pub record IsInput (bytes : List ℕ) (i : Input) : Type 0 where
+  pub some : 0 < length i.files
+  pub ask_for : AskFor i.subject.words i.query
+  pub one : length (records_of i.subject.header) ≡ 1
+  pub whole : missing_name (header_of i.subject) i.query.plan ≡ None
+  pub is_shape : IsShapeOf (bound_of i) i.shape
+  pub are : AreParts i.shape i.subject i.keys i.files
+  pub is : bytes ≡ files_bytes i.shape i.files
+
+-- all files as one
+abbrev pub IsOneFile : Input → StateFile → Type 0
+IsOneFile i f = IsCombined i.shape i.subject i.keys (groups_in i) (stretches_of i.files) f
+
+-- the files are all bytes of all sources, each once
+pub record IsWhole (i : Input) (cover : List Stretch) : Type 0 where
+  pub is_cover : IsWholeCover i.subject.sources (stretches_of i.files) cover
+
+-- the text that they come to
+pub record HasText (i : Input) (text : List ℕ) : Type 0 where
+  pub cover : List Stretch
+  pub is_whole : IsWhole i cover
+  pub counted : All IsCounted cover
+  pub is : IsTextOf i.query.plan (bound_of i) (listed (groups_in i)) text
+
+-- bytes are those of one file, which is all files of an input as one
+pub record AreOneFile (bytes file : List ℕ) : Type 0 where
+  pub input : Input
+  pub is_input : IsInput bytes input
+  pub f : StateFile
+  pub one : IsOneFile input f
+  pub is : file ≡ file_bytes input.shape.kinds.now f
+
+-- a text is that of the table that the files of an input come to
+pub record IsTableOf (bytes text : List ℕ) : Type 0 where
+  pub input : Input
+  pub is_input : IsInput bytes input
+  pub has_text : HasText input text
+
+-- the first refused row of all
+pub record HasRefusedRow (i : Input) (row : FirstRefused) : Type 0 where
+  pub cover : List Stretch
+  pub is_whole : IsWhole i cover
+  pub first : IsFirstRefused cover row
+
+-- the sum of the files that some bytes are
+pub record IsLoaded (bytes : List ℕ) (loaded : Loaded) : Type 0 where
+  pub input : Input
+  pub is_input : IsInput bytes input
+  pub subject_is : subject_of loaded.whole ≡ input.subject
+  pub keys_are : keys_of loaded.range ≡ input.keys
+  pub is_plan : IsPlanOf input.subject loaded.plan
+  pub query_is : loaded.plan.plan ≡ input.query
+  pub sum_is : AreSummed (groups_in input) (stretches_of input.files) loaded.sum
