@@ -1,0 +1,4 @@
+pub mod Files
+mod Groups
+mod Heads
+pub mod Numbers

@@ -1,0 +1,4 @@
+pub mod Scans
+pub mod Leaves
+pub mod Passes
+pub mod Opening

@@ -1,0 +1,6 @@
+pub mod Scan
+pub mod Passing
+pub mod Left
+pub mod Header
+pub mod Begins
+pub mod Finding
