@@ -13,9 +13,17 @@ use par_io::{Sink, write_whole};
 pub const HELP: &str = "\
 usage: parstream [--group COLUMNS] --agg ITEMS [--where FILTER]..
                  [--decimals PLACES] [--workers N]
+       parstream partial [--source I/N] [--group COLUMNS] --agg ITEMS ..
+       parstream combine
+       parstream finalize
 
 Reads comma-separated records from the standard input, of which the first is the
 header, and writes a table with a row for each group.
+
+With partial the records are those of one of several sources, and what they come
+to is written as a file of partial states. combine reads such files, one after
+another, and writes them as one; finalize writes the table of the rows of all
+sources, if it reads the states of all of them.
 
   --group COLUMNS  one to eight names between commas; without it all rows are
                    one group
@@ -31,6 +39,8 @@ header, and writes a table with a row for each group.
                    2 for all columns, price=2,weight=3 for some; without it
                    numbers are integers
   --workers N      0 to 64 threads besides the first; 2 if it is not given
+  --source I/N     with partial: the number of the source, from 0 on, and how
+                   many there are; 0/1 if it is not given
   -h, --help       this text
   --version        the program's version
 
@@ -47,10 +57,14 @@ Examples:
   parstream --agg count --where region=north --where 'qty!=' < orders.csv
   parstream --agg sum:price --decimals 2 --where 'price>=9.50' < orders.csv
   zcat orders.csv.gz | parstream --group region --agg count --workers 4
+  parstream partial --source 0/2 --agg count < 2025.csv > 2025.states
+  parstream partial --source 1/2 --agg count < 2026.csv > 2026.states
+  cat 2025.states 2026.states | parstream finalize
 
-Status: 0 the table was written, 1 a row is refused, 2 no such query, header or
+Status: 0 all was written, 1 a row is refused, 2 no such query, header or
 column, or the input is no text, 3 a read failed, 4 a write failed, 5 out of
-memory, 7 a record is too long.
+memory, 6 too long for a file of states, 7 a record is too long, 8 no states
+that go together, 9 states are missing.
 ";
 
 /// What `--version` is answered.

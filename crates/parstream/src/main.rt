@@ -1,9 +1,10 @@
 //! `parstream [--group COLUMNS] --agg ITEMS ..` answers a query over the comma-separated bytes of the standard input,
 //! whatever their length; `--help`, `-h` and `--version` are answered on the standard output. A word that is not
-//! understood, and an input that is compressed or no text, are named by a line on the standard error.
+//! understood, and an input that is compressed or no text, are named by a line on the standard error. `parstream combine`
+//! and `parstream finalize` put files of partial states together.
 //!
-//! This file is only the edge to the system: it hands the words and the standard streams to the libraries `input_hints`
-//! and `par_stream`, whose contracts say what the answer is, and ends with the status that it gets.
+//! This file is only the edge to the system: it hands the words and the standard streams to the libraries `input_hints`,
+//! `par_stream` and `state_forms`, whose contracts say what the answer is, and ends with the status that it gets.
 
 #![tactic(auto)]
 
@@ -13,6 +14,8 @@ use input_hints::{Peeked, asked_of, refuse_input, refuse_words, tell};
 use par_io::{StdSink, StdSource};
 use par_stream::{NO_MEMORY, WINDOW_BYTES, say_usage, stream_table};
 use progress::ProgressLine;
+use state_forms::{form_of, run_form};
+use state_partial::{part_words, partial_states};
 use std::env::Env;
 use std::io::ErrorKind;
 use std::process::ExitCode;
@@ -45,6 +48,28 @@ fn main(rt: HostRuntime) -> ExitCode {
     let mut out = StdSink::new(rt.stdout());
     if let Some(asked) = asked_of(words.as_slice()) {
         return ExitCode::from(tell(asked, &mut out, &mut err));
+    }
+    if let Some(form) = form_of(words.as_slice()) {
+        let mut source = StdSource::new(rt.stdin());
+        let status = run_form(&rt, rt.alloc(), form, &mut source, &mut out, &mut err);
+        return ExitCode::from(status);
+    }
+    if let Some(asked) = part_words(words.as_slice()) {
+        let mut source = Peeked::new(StdSource::new(rt.stdin()));
+        if let Some(status) = refuse_input(&mut source, &mut err) {
+            return ExitCode::from(status);
+        }
+        let status = partial_states(
+            &rt,
+            rt.alloc(),
+            asked,
+            &mut source,
+            &mut out,
+            &mut err,
+            WINDOW_BYTES,
+            &mut ProgressLine::new(&rt, rt.stderr()),
+        );
+        return ExitCode::from(status);
     }
     if let Some(status) = refuse_words(rt.alloc(), words.as_slice(), &mut err) {
         return ExitCode::from(status);

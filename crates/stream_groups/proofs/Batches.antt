@@ -65,6 +65,7 @@ none_filled old was feeds b none next lines before same few_feeds =
       part = λ from records line read.
           subst (λ (ps : List Stretch). HasPart from old records feeds ps b.next.rest) (sym none) (subst (HasPart from old records feeds []) rest (part_none from old records feeds was.rest line read));
       line = λ begins _. subst BeginsLine rest begins;
+      end = λ e. cc e;
     }
 
 module _ (old mid new : Option (List ℕ)) (was : Stretch) (feeds : ℕ) (b now : Batch) (f : IsFilledBatch old mid was feeds b false) where
@@ -100,6 +101,7 @@ module _ (old mid new : Option (List ℕ)) (was : Stretch) (feeds : ℕ) (b now 
             part_more from mid new records feeds ps a.piece b.next.rest is_last (f.part from records line read) (f.cut refl) a.filled.reads a.filled.last a.filled.seam in
             subst (HasPart from new records feeds now.pieces.items) (sym a.rest) (subst (λ (l : List Stretch). HasPart from new records feeds l a.piece.rest) (sym a.pieces) part);
         line = λ begins e. subst BeginsLine (sym a.rest) (a.filled.seam e).line;
+        end = λ e. (a.filled.last e).1;
       }
 
   -- no more, since what comes next is too long
@@ -126,6 +128,7 @@ module _ (old mid new : Option (List ℕ)) (was : Stretch) (feeds : ℕ) (b now 
             subst (λ (l : List Stretch). HasPart from new records feeds l now.next.rest) (sym items)
             (part_longer from mid new records feeds b.pieces.items b.next.rest now.next.rest (f.part from records line read) m.next.reads);
         line = λ begins _. subst BeginsLine (sym m.next.reads.2) (begins_longer b.next.rest m.next.reads.0 (f.line begins refl));
+        end = λ e. cc e;
       }
 
 -- a window that was too long, without one before it

@@ -8,4 +8,5 @@ mod Parts
 mod Places
 pub mod Refusals
 mod Streams
+mod Takes
 mod Windows

@@ -6,3 +6,4 @@ pub mod Begins
 pub mod Reading
 pub mod Stops
 pub mod Lines
+pub mod Taken

@@ -149,6 +149,7 @@ pub record IsFilledBatch (old new : Option (List ℕ)) (was : Stretch) (feeds : 
   pub reads : (from : Option (List ℕ)) (records : Table) → HasRead from old records feeds was.rest → Reaches from new (records ++ line_records b.pieces.items) b.feeds b.next.rest is_last
   pub part : (from : Option (List ℕ)) (records : Table) → BeginsLine was.rest → HasRead from old records feeds was.rest → HasPart from new records feeds b.pieces.items b.next.rest
   pub line : BeginsLine was.rest → is_last ≡ false → BeginsLine b.next.rest
+  pub end : is_last ≡ true → IsAtEnd new
 
 -- the windows of a batch begin with the line of a header, which has one record and is cut off before the end of a line
 pub record IsHeaded (header : Table) (b : Batch) (is_last : Bool) : Type 0 where
@@ -183,10 +184,10 @@ pub record AddsBatch (plan : Plan) (b : Batch) (old new : Added) : Type 0 where
   pub few : new.count ≤ 2 ^ 50
 
 -- a stream: its windows begin with its header, and there is a participant for each worker and one more
-pub record IsStream (query : Query) (plan : Plan) (s : Stream) : Type 0 where
+pub record IsStream (query : Query) (workers : ℕ) (plan : Plan) (s : Stream) : Type 0 where
   pub batch : IsHeaded s.header s.batch s.is_last
   pub bound : IsBound query (record_at s.header 0) plan
-  pub many : participants_of s.added.gathered ≡ query.workers + 1
+  pub many : participants_of s.added.gathered ≡ workers + 1
   pub few : s.added.count ≤ 2 ^ 50
 
 -- It has added these rows, which were read of a source after the header; those of its batch come next, and if there are

@@ -7,15 +7,17 @@ ghost use Rattle.stream_groups.specs.Begins.{IsLined, feeds_of};
 ghost use Rattle.stream_groups.specs.Gathering.{participants_of};
 ghost use Rattle.stream_groups.specs.Reading.{AddsBatch, IsFilledBatch, IsNotFilled};
 ghost use Rattle.stream_groups.specs.Stops.{TellsOfRows};
+ghost use Rattle.stream_groups.specs.Taken.{Takes};
 ghost use Rattle.stream_groups.specs.declared.stop.Stop.TheVariants as stop;
 
 use crate::batch::Batch;
 use crate::gathered::Gathered;
 use crate::rows::stop_of_block;
 use crate::stop::Stop;
+use crate::taken::Taken;
 use par_io::Source;
 use par_model::BoundPlan;
-use plan_spec::Plan;
+use plan_spec::{MOST_WORKERS, Plan};
 use row_windows::WindowAnswer;
 use std::alloc::Global;
 use std::mem;
@@ -38,18 +40,21 @@ pub(crate) fn add_and_fill<R: Threads + Wait + Sync, S: Source>(
     rt: &R,
     alloc: Global,
     plan: &Plan,
+    workers: u32,
     bound: &BoundPlan,
     batch: &Batch,
     added: &mut Added,
     next: &mut Batch,
     source: &mut S,
     size: usize,
+    taken: &mut Taken,
 ) -> Result<Result<bool, WindowAnswer>, Stop>
     requires pieces { length batch.now.pieces.items ≤ 64 }
     requires lines { All IsLined batch.now.pieces.items }
     requires feeds { batch.now.before + feeds_of batch.now.pieces.items ≤ 2 ^ 60 }
     requires columns { HaveColumns bound.now batch.now.pieces.items }
-    requires many { participants_of added.old.gathered ≡ plan.now.workers + 1 }
+    requires workers { workers ≤ MOST_WORKERS }
+    requires many { participants_of added.old.gathered ≡ workers + 1 }
     requires few { added.old.count ≤ 2 ^ 50 }
     requires next { next.old.next.lines ≡ [] }
     requires start { next.old.feeds ≡ next.old.before }
@@ -62,12 +67,15 @@ pub(crate) fn add_and_fill<R: Threads + Wait + Sync, S: Source>(
     ensures why { IfErr result (TellsOfRows plan.now bound.now batch.now added.old) }
     ensures kind { IfErr result (λ why. ((why ≡ stop.ReadFault) ⊎ (why ≡ stop.WriteFault)) → ⊥) }
     ensures faults { S.faults source.old ≤ S.faults source.new }
+    ensures taken { Takes (S.left source.old) (S.left source.new) (S.faults source.old) (S.faults source.new) taken.old taken.new }
 {
-    if plan.workers() > 0 {
-        return add_beside(rt, alloc, plan, bound, batch, added, next, source, size);
+    if workers > 0 {
+        return add_beside(
+            rt, alloc, plan, workers, bound, batch, added, next, source, size, taken,
+        );
     }
-    add_batch(rt, alloc, plan, bound, batch, added, size)?;
-    Ok(next.fill(alloc, source, size))
+    add_batch(rt, alloc, plan, workers, bound, batch, added, size)?;
+    Ok(next.fill(alloc, source, size, taken))
 }
 
 /// Fills the next batch in the caller's thread, and adds the rows of this one in another, by the participants.
@@ -75,18 +83,21 @@ fn add_beside<R: Threads + Wait + Sync, S: Source>(
     rt: &R,
     alloc: Global,
     plan: &Plan,
+    workers: u32,
     bound: &BoundPlan,
     batch: &Batch,
     added: &mut Added,
     next: &mut Batch,
     source: &mut S,
     size: usize,
+    taken: &mut Taken,
 ) -> Result<Result<bool, WindowAnswer>, Stop>
     requires pieces { length batch.now.pieces.items ≤ 64 }
     requires lines { All IsLined batch.now.pieces.items }
     requires feeds { batch.now.before + feeds_of batch.now.pieces.items ≤ 2 ^ 60 }
     requires columns { HaveColumns bound.now batch.now.pieces.items }
-    requires many { participants_of added.old.gathered ≡ plan.now.workers + 1 }
+    requires workers { workers ≤ MOST_WORKERS }
+    requires many { participants_of added.old.gathered ≡ workers + 1 }
     requires few { added.old.count ≤ 2 ^ 50 }
     requires next { next.old.next.lines ≡ [] }
     requires start { next.old.feeds ≡ next.old.before }
@@ -99,18 +110,20 @@ fn add_beside<R: Threads + Wait + Sync, S: Source>(
     ensures why { IfErr result (TellsOfRows plan.now bound.now batch.now added.old) }
     ensures kind { IfErr result (λ why. ((why ≡ stop.ReadFault) ⊎ (why ≡ stop.WriteFault)) → ⊥) }
     ensures faults { S.faults source.old ≤ S.faults source.new }
+    ensures taken { Takes (S.left source.old) (S.left source.new) (S.faults source.old) (S.faults source.new) taken.old taken.new }
 {
     let mut add = || -> Result<(), Stop>
         requires pieces { length batch.now.pieces.items ≤ 64 }
         requires lines { All IsLined batch.now.pieces.items }
         requires feeds { batch.now.before + feeds_of batch.now.pieces.items ≤ 2 ^ 60 }
         requires columns { HaveColumns bound.now batch.now.pieces.items }
-        requires many { participants_of added.now.gathered ≡ plan.now.workers + 1 }
+        requires workers { workers ≤ MOST_WORKERS }
+        requires many { participants_of added.now.gathered ≡ workers + 1 }
         requires few { added.now.count ≤ 2 ^ 50 }
         ensures added { OnOk result (AddsBatch bound.entry.now batch.entry.now added.entry.now added.exit.now) }
         ensures why { IfErr result (TellsOfRows plan.entry.now bound.entry.now batch.entry.now added.entry.now) }
         ensures kind { IfErr result (λ why. ((why ≡ stop.ReadFault) ⊎ (why ≡ stop.WriteFault)) → ⊥) }
-    { add_batch(rt, alloc, plan, bound, batch, added, size) };
+    { add_batch(rt, alloc, plan, workers, bound, batch, added, size) };
     let mut read = || -> Result<bool, WindowAnswer>
         requires next { next.now.next.lines ≡ [] }
         requires start { next.now.feeds ≡ next.now.before }
@@ -120,7 +133,8 @@ fn add_beside<R: Threads + Wait + Sync, S: Source>(
         ensures feeds { result ≡ Err answer.LongRecord → next.exit.now.feeds ≡ next.entry.now.feeds }
         ensures few_feeds { next.exit.now.feeds ≤ 2 ^ 60 }
         ensures faults { S.faults source.entry.now ≤ S.faults source.exit.now }
-    { next.fill(alloc, source, size) };
+        ensures taken { Takes (S.left source.entry.now) (S.left source.exit.now) (S.faults source.entry.now) (S.faults source.exit.now) taken.entry.now taken.exit.now }
+    { next.fill(alloc, source, size, taken) };
     let (adding, filling) = join_mut(rt, &mut add, &mut read);
     adding?;
     Ok(filling)
@@ -131,6 +145,7 @@ pub(crate) fn add_batch<R: Threads + Wait + Sync>(
     rt: &R,
     alloc: Global,
     plan: &Plan,
+    workers: u32,
     bound: &BoundPlan,
     batch: &Batch,
     added: &mut Added,
@@ -140,14 +155,13 @@ pub(crate) fn add_batch<R: Threads + Wait + Sync>(
     requires lines { All IsLined batch.now.pieces.items }
     requires feeds { batch.now.before + feeds_of batch.now.pieces.items ≤ 2 ^ 60 }
     requires columns { HaveColumns bound.now batch.now.pieces.items }
-    requires many { participants_of added.old.gathered ≡ plan.now.workers + 1 }
+    requires workers { workers ≤ MOST_WORKERS }
+    requires many { participants_of added.old.gathered ≡ workers + 1 }
     requires few { added.old.count ≤ 2 ^ 50 }
     ensures added { OnOk result (AddsBatch bound.now batch.now added.old added.new) }
     ensures why { IfErr result (TellsOfRows plan.now bound.now batch.now added.old) }
     ensures kind { IfErr result (λ why. ((why ≡ stop.ReadFault) ⊎ (why ≡ stop.WriteFault)) → ⊥) }
 {
-    // Tells that there are few participants. It does nothing.
-    let _workers = plan.workers();
     let old = mem::replace(&mut added.gathered, Gathered::Near(Vec::new(alloc)));
     let pieces = batch.pieces.as_slice();
     let (new, more) = match old.add_pieces(rt, alloc, pieces, bound, size) {

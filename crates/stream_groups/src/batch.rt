@@ -3,10 +3,12 @@
 ghost use Rattle.std.specs.Prelude.{◌≡◌, ◌≤◌, ◌+◌, ◌^◌, ◌∷◌, [], Err, IfErr, IfOk, OnOk};
 ghost use Rattle.par_io.specs.Faults.{Rose};
 ghost use Rattle.stream_groups.specs.Reading.{AddsPiece, IsFilledBatch, IsNotFilled, MeetsLong};
+ghost use Rattle.stream_groups.specs.Taken.{Takes};
 ghost use Rattle.text_lines.specs.Feeds.{count_feeds};
 ghost use Rattle.row_windows.specs.declared.window.WindowAnswer.TheVariants as answer;
 
-use crate::filling::more_feeds;
+use crate::filling::{fill, more_feeds};
+use crate::taken::Taken;
 use par_io::Source;
 use row_windows::{Window, WindowAnswer};
 use std::alloc::{AllocError, Global};
@@ -100,6 +102,7 @@ impl Batch {
         alloc: Global,
         source: &mut S,
         size: usize,
+        taken: &mut Taken,
     ) -> Result<bool, WindowAnswer>
         requires lines { self.old.next.lines ≡ [] }
         requires start { self.old.feeds ≡ self.old.before }
@@ -109,6 +112,7 @@ impl Batch {
         ensures feeds { result ≡ Err answer.LongRecord → self.new.feeds ≡ self.old.feeds }
         ensures few_feeds { self.new.feeds ≤ 2 ^ 60 }
         ensures faults { S.faults source.old ≤ S.faults source.new }
+        ensures taken { Takes (S.left source.old) (S.left source.new) (S.faults source.old) (S.faults source.new) taken.old taken.new }
     {
         let mut spares = mem::replace(&mut self.pieces, Vec::new(alloc));
         for _at in 0..MOST_PIECES {
@@ -117,7 +121,7 @@ impl Batch {
             }
             let goal = goal_of(&self.next, size);
             let spare = spare_of(alloc, &mut spares, goal);
-            match self.add_piece(spare, source, goal) {
+            match self.add_piece(spare, source, goal, taken) {
                 Ok(true) => return Ok(true),
                 Ok(false) => {}
                 Err(WindowAnswer::LongRecord) => {
@@ -138,6 +142,7 @@ impl Batch {
         after: Window,
         source: &mut S,
         goal: usize,
+        taken: &mut Taken,
     ) -> Result<bool, WindowAnswer>
         requires lines { self.old.next.lines ≡ [] }
         requires few { self.old.feeds ≤ 2 ^ 60 }
@@ -146,9 +151,10 @@ impl Batch {
         ensures few_feeds { self.new.feeds ≤ 2 ^ 60 }
         ensures read_fault { result ≡ Err answer.ReadFault → Rose (S.faults source.old) (S.faults source.new) }
         ensures faults { S.faults source.old ≤ S.faults source.new }
+        ensures taken { Takes (S.left source.old) (S.left source.new) (S.faults source.old) (S.faults source.new) taken.old taken.new }
     {
         let mut after = after;
-        let last = match self.next.fill(source, goal) {
+        let last = match fill(&mut self.next, source, goal, taken) {
             Ok(last) => last,
             Err(why) => return Err(why),
         };

@@ -1,6 +1,7 @@
 //! The windows of a source: how one is filled, and how the first is parted from its header.
 
-ghost use Rattle.std.specs.Prelude.{◌≡◌, ◌<◌, ◌≤◌, ◌+◌, ◌^◌, ◌++◌, ◌∷◌, ◌⊎◌, [], ℕ, List, Option, Err, IfErr, IfOk, OnErr, OnOk, length, string_bytes};
+ghost use Rattle.std.specs.Prelude.{◌≡◌, ◌<◌, ◌≤◌, ◌+◌, ◌^◌, ◌++◌, ◌∷◌, ◌⊎◌, [], ℕ, List, Option, Err, IfErr, IfOk, OnErr, OnOk, length, string_bytes, true};
+ghost use Rattle.std.specs.Io.KnownBytes.{IsAtEnd};
 ghost use Rattle.csv_rows.specs.Cuts.{IsCut};
 ghost use Rattle.csv_rows.specs.Records.{record_at, records_of};
 ghost use Rattle.csv_rows.specs.declared.records.RowsAnswer.TheVariants as parsing;
@@ -11,11 +12,13 @@ ghost use Rattle.text_lines.specs.Feeds.{count_feeds};
 ghost use Rattle.stream_groups.specs.Begins.{IsLined};
 ghost use Rattle.stream_groups.specs.Reading.{HasHeader, HasPart, IsFilled, IsFirst, IsNotFilled, Reaches};
 ghost use Rattle.stream_groups.specs.Stops.{IsStopOfLong, IsStopOfWindow, SaysOfLong, Tells};
+ghost use Rattle.stream_groups.specs.Taken.{Takes};
 ghost use Rattle.stream_groups.specs.declared.stop.Stop.TheVariants as stop;
 
 use crate::batch::MOST_FEEDS;
 use crate::place::place_of_long;
 use crate::stop::Stop;
+use crate::taken::Taken;
 use csv_rows::{RowStore, RowsAnswer, rows};
 use par_io::Source;
 use row_windows::{Window, WindowAnswer, header_end};
@@ -46,12 +49,15 @@ pub(crate) fn first_window<R: Wait, S: Source>(
     alloc: Global,
     source: &mut S,
     size: usize,
+    taken: &mut Taken,
 ) -> Result<First, Stop>
     ensures header { IfOk result (λ f. HasHeader f.header f.window f.is_last) }
     ensures reaches { IfOk result (λ f. Reaches (S.left source.old) (S.left source.new) (piece_records f.window) (f.feeds + count_feeds f.window.lines) f.window.rest f.is_last) }
     ensures part { IfOk result (λ f. 0 < length f.window.lines → HasPart (S.left source.old) (S.left source.new) (record_at f.header 0 ∷ []) f.feeds (f.window ∷ []) f.window.rest) }
     ensures lined { IfOk result (λ f. IsLined f.window) }
     ensures few { IfOk result (λ f. f.feeds ≤ 2 ^ 60) }
+    ensures end { IfOk result (λ f. f.is_last ≡ true → IsAtEnd (S.left source.new)) }
+    ensures taken { Takes (S.left source.old) (S.left source.new) (S.faults source.old) (S.faults source.new) taken.old taken.new }
     ensures why { IfErr result (λ why. (query : _) → Tells query (S.left source.old) why) }
     ensures read_fault { IfErr result (λ why. why ≡ stop.ReadFault → Rose (S.faults source.old) (S.faults source.new)) }
     ensures faults { S.faults source.old ≤ S.faults source.new }
@@ -60,7 +66,7 @@ pub(crate) fn first_window<R: Wait, S: Source>(
     let mut window = Window::new(alloc);
     let mut feeds = 0;
     for _ in rt.forever() {
-        let is_last = match fill(&mut window, source, size) {
+        let is_last = match fill(&mut window, source, size, taken) {
             Ok(is_last) => is_last,
             Err(why) => return Err(stop_of_window(alloc, why, 0, feeds, window.rest())),
         };
@@ -117,18 +123,23 @@ fn behind(alloc: Global, before: &Window) -> Result<Window, Stop>
     Ok(next)
 }
 
-/// Fills a window, and says whether it is the last.
+/// Fills a window, and says whether it is the last. The bytes that the source gave are counted.
 pub(crate) fn fill<S: Source>(
     window: &mut Window,
     source: &mut S,
     size: usize,
+    taken: &mut Taken,
 ) -> Result<bool, WindowAnswer>
     requires { window.old.lines ≡ [] }
     ensures filled { IfOk result (IsFilled (S.left source.old) (S.left source.new) window.old window.new) }
     ensures why { IfErr result (IsNotFilled (S.left source.old) (S.left source.new) (S.faults source.old) (S.faults source.new) window.old window.new) }
     ensures faults { S.faults source.old ≤ S.faults source.new }
+    ensures taken { Takes (S.left source.old) (S.left source.new) (S.faults source.old) (S.faults source.new) taken.old taken.new }
 {
-    window.fill(source, size)
+    let had = window.rest().len();
+    let filled = window.fill(source, size);
+    *taken = taken.after_filling(&filled, had, window);
+    filled
 }
 
 /// The reason for a window that was not filled, before which there are so many records and line feeds: what was read of it,

@@ -22,6 +22,7 @@ mod reading;
 mod refused;
 mod rows;
 mod stop;
+mod taken;
 mod twice;
 mod words;
 
@@ -29,4 +30,5 @@ pub use gathered::{Gathered, all_groups, may_part};
 pub use progress::{Progress, SoFar, Untold};
 pub use reading::{ReadGroups, read_groups};
 pub use stop::{LONG_RECORD, RefusedRow, Stop};
+pub use taken::Taken;
 pub use words::read_words;

@@ -1,6 +1,7 @@
 //! The groups of a source, batch by batch.
 
-ghost use Rattle.std.specs.Prelude.{◌≡◌, ◌<◌, ◌≤◌, ◌+◌, ◌^◌, ◌++◌, ◌∷◌, ◌⊎◌, [], ℕ, List, Option, IfErr, IfOk, false, length, true};
+ghost use Rattle.std.specs.Prelude.{◌≡◌, ◌<◌, ◌≤◌, ◌+◌, ◌^◌, ◌++◌, ◌∷◌, ◌⊎◌, [], ℕ, List, Option, IfErr, IfOk, OnOk, false, length, true};
+ghost use Rattle.std.specs.Io.KnownBytes.{IsAtEnd};
 ghost use Rattle.csv_rows.specs.Records.{record_at};
 ghost use Rattle.par_io.specs.Faults.{Rose};
 ghost use Rattle.row_blocks.specs.Blocks.{Table};
@@ -9,6 +10,7 @@ ghost use Rattle.stream_groups.specs.Begins.{IsLined};
 ghost use Rattle.stream_groups.specs.Reading.{AreGroupsOver, HasHeader, HasPart, HasRows, IsBound, IsStream, Reaches};
 ghost use Rattle.split_run.specs.Pieces.{piece_records};
 ghost use Rattle.stream_groups.specs.Stops.{Tells};
+ghost use Rattle.stream_groups.specs.Taken.{Takes};
 ghost use Rattle.stream_groups.specs.declared.stop.Stop.TheVariants as stop;
 
 use crate::adding::{Added, add_and_fill, add_batch};
@@ -18,10 +20,11 @@ use crate::gathered::Gathered;
 use crate::progress::{Progress, SoFar};
 use crate::rows::bind;
 use crate::stop::Stop;
+use crate::taken::Taken;
 use csv_rows::RowStore;
 use par_io::Source;
 use par_model::BoundPlan;
-use plan_spec::Plan;
+use plan_spec::{MOST_WORKERS, Plan};
 use split_run::begin;
 use std::alloc::Global;
 use std::sync::Wait;
@@ -50,30 +53,40 @@ pub(crate) struct Stream {
 /// The most bytes of the first window, unless a record is longer: so a wrong name is answered early, even if the source is slow.
 const FIRST_BYTES: usize = 4096;
 
-/// Reads the whole source, in batches of this many bytes or more, and reports how far it has come.
+/// Reads the whole source, in batches of this many bytes or more, with this many workers, and reports how far it has come. The bytes that
+/// the source gave are counted, also if there are no groups.
 pub fn read_groups<R: Threads + Wait + Sync, S: Source, P: Progress>(
     rt: &R,
     alloc: Global,
     plan: &Plan,
+    workers: u32,
     source: &mut S,
     size: usize,
     progress: &mut P,
+    taken: &mut Taken,
 ) -> Result<ReadGroups, Stop>
+    requires workers { workers ≤ MOST_WORKERS }
     ensures groups { IfOk result (AreGroupsOver plan.now (S.left source.old)) }
     ensures why { IfErr result (Tells plan.now (S.left source.old)) }
     ensures read_fault { IfErr result (λ why. why ≡ stop.ReadFault → Rose (S.faults source.old) (S.faults source.new)) }
     ensures no_write { IfErr result (λ why. (why ≡ stop.WriteFault) → ⊥) }
+
+    // What is left of the source, and how many bytes it gave.
+    ensures end { OnOk result (IsAtEnd (S.left source.new)) }
+    ensures taken { Takes (S.left source.old) (S.left source.new) (S.faults source.old) (S.faults source.new) taken.old taken.new }
 {
-    let first = first_window(rt, alloc, source, size.min(FIRST_BYTES))?;
+    let first = first_window(rt, alloc, source, size.min(FIRST_BYTES), taken)?;
     let bound = bind(alloc, plan, &first.header)?;
-    let mut stream = open(alloc, plan, &bound, first)?;
+    let mut stream = open(alloc, plan, workers, &bound, first)?;
     let mut bytes = 0u64;
     for _ in rt.forever() {
         if stream.is_last {
-            return end(rt, alloc, plan, bound, size, stream);
+            return end(rt, alloc, plan, workers, bound, size, stream);
         }
         bytes = bytes.saturating_add(stream.batch.bytes());
-        stream = next_window(rt, alloc, plan, &bound, source, size, stream)?;
+        stream = next_window(
+            rt, alloc, plan, workers, &bound, source, size, stream, taken,
+        )?;
         progress.tell(so_far(bytes, &stream.added));
     }
     unreachable!()
@@ -89,24 +102,33 @@ fn so_far(bytes: u64, added: &Added) -> SoFar {
 }
 
 /// Makes the maps of the participants, before any row.
-fn open(alloc: Global, plan: &Plan, bound: &BoundPlan, first: First) -> Result<Stream, Stop>
+fn open(
+    alloc: Global,
+    plan: &Plan,
+    workers: u32,
+    bound: &BoundPlan,
+    first: First,
+) -> Result<Stream, Stop>
     requires header { HasHeader first.header first.window first.is_last }
     requires bound { IsBound plan.now (record_at first.header 0) bound.now }
     requires lined { IsLined first.window }
     requires few { first.feeds ≤ 2 ^ 60 }
-    ensures stream { IfOk result (IsStream plan.now bound.now) }
+    requires workers { workers ≤ MOST_WORKERS }
+    ensures stream { IfOk result (IsStream plan.now workers bound.now) }
+    ensures last { IfOk result (λ s. s.is_last ≡ first.is_last) }
     ensures rows { IfOk result (λ s. (from left : Option (List ℕ)) → Reaches from left (piece_records first.window) (first.feeds + count_feeds first.window.lines) first.window.rest first.is_last
         → (0 < length first.window.lines → HasPart from left (record_at first.header 0 ∷ []) first.feeds (first.window ∷ []) first.window.rest) → HasRows bound.now from left s []) }
     ensures why { IfErr result (λ why. why ≡ stop.Memory) }
 {
-    let _of = bound;
+    let _of = plan;
+    let _bound = bound;
     let First {
         window,
         header,
         is_last,
         feeds,
     } = first;
-    let maps = begin(alloc, plan.workers() + 1)?;
+    let maps = begin(alloc, workers + 1)?;
     Ok(Stream {
         batch: Batch::of_window(alloc, window, feeds)?,
         is_last,
@@ -124,20 +146,25 @@ fn next_window<R: Threads + Wait + Sync, S: Source>(
     rt: &R,
     alloc: Global,
     plan: &Plan,
+    workers: u32,
     bound: &BoundPlan,
     source: &mut S,
     size: usize,
     stream: Stream,
+    taken: &mut Taken,
 ) -> Result<Stream, Stop>
-    requires stream { IsStream plan.now bound.now stream }
+    requires workers { workers ≤ MOST_WORKERS }
+    requires stream { IsStream plan.now workers bound.now stream }
     requires more { stream.is_last ≡ false }
-    ensures stream { IfOk result (IsStream plan.now bound.now) }
+    ensures stream { IfOk result (IsStream plan.now workers bound.now) }
     ensures rows { IfOk result (λ s. (from : Option (List ℕ)) (rows : Table) → HasRows bound.now from (S.left source.old) stream rows
         → (all : Table) × HasRows bound.now from (S.left source.new) s all) }
     ensures why { IfErr result (λ why. (from : Option (List ℕ)) (rows : Table) → HasRows bound.now from (S.left source.old) stream rows → Tells plan.now from why) }
     ensures read_fault { IfErr result (λ why. why ≡ stop.ReadFault → Rose (S.faults source.old) (S.faults source.new)) }
     ensures faults { S.faults source.old ≤ S.faults source.new }
     ensures no_write { IfErr result (λ why. (why ≡ stop.WriteFault) → ⊥) }
+    ensures end { IfOk result (λ s. s.is_last ≡ true → IsAtEnd (S.left source.new)) }
+    ensures taken { Takes (S.left source.old) (S.left source.new) (S.faults source.old) (S.faults source.new) taken.old taken.new }
 {
     let Stream {
         batch,
@@ -148,7 +175,7 @@ fn next_window<R: Threads + Wait + Sync, S: Source>(
     } = stream;
     spare.follow(&batch)?;
     let filled = add_and_fill(
-        rt, alloc, plan, bound, &batch, &mut added, &mut spare, source, size,
+        rt, alloc, plan, workers, bound, &batch, &mut added, &mut spare, source, size, taken,
     )?;
     let is_last = match filled {
         Ok(is_last) => is_last,
@@ -171,12 +198,14 @@ fn end<R: Threads + Wait + Sync>(
     rt: &R,
     alloc: Global,
     plan: &Plan,
+    workers: u32,
     bound: BoundPlan,
     size: usize,
     stream: Stream,
 ) -> Result<ReadGroups, Stop>
-    requires stream { IsStream plan.now bound stream }
+    requires stream { IsStream plan.now workers bound stream }
     requires last { stream.is_last ≡ true }
+    requires workers { workers ≤ MOST_WORKERS }
     ensures groups { IfOk result (λ r. (from left : Option (List ℕ)) (rows : Table) → HasRows bound from left stream rows → AreGroupsOver plan.now from r) }
     ensures why { IfErr result (λ why. (from left : Option (List ℕ)) (rows : Table) → HasRows bound from left stream rows → Tells plan.now from why) }
     ensures kind { IfErr result (λ why. ((why ≡ stop.ReadFault) ⊎ (why ≡ stop.WriteFault)) → ⊥) }
@@ -186,7 +215,7 @@ fn end<R: Threads + Wait + Sync>(
         mut added,
         ..
     } = stream;
-    add_batch(rt, alloc, plan, &bound, &batch, &mut added, size)?;
+    add_batch(rt, alloc, plan, workers, &bound, &batch, &mut added, size)?;
     let header = Vec::from_slice(alloc, batch.next.header())?;
     Ok(ReadGroups {
         bound,

@@ -20,7 +20,7 @@ pub add_pieces-requires-clause-some : goal.add_pieces-requires-clause-some
 add_pieces-requires-clause-some g c κs within = omega (arith, c.requires.many, ap participants_of c.replace-old.ensures.value)
 
 pub add_pieces-requires-clause-few : goal.add_pieces-requires-clause-few
-add_pieces-requires-clause-few g c κs within = omega (arith, c.requires.many, c.workers-workers.ensures.within, ap participants_of c.replace-old.ensures.value)
+add_pieces-requires-clause-few g c κs within = omega (arith, c.requires.many, c.requires.workers, ap participants_of c.replace-old.ensures.value)
 
 -- ---- the reason, by the pieces of the batch
 

@@ -12,6 +12,7 @@ use Rattle.stream_groups.specs.Reading.{HasHeader, HasPart, HasRead, Reaches}
 use Rattle.stream_groups.specs.Stops.{Tells}
 use Rattle.stream_groups.specs.declared.stop.Stop.TheVariants as stop
 use Rattle.stream_groups.proofs.Streams.{first_has, first_header, first_part, parted_begins}
+use Rattle.stream_groups.proofs.Takes.{takes_none, takes_then}
 use Rattle.stream_groups.proofs.Windows.{filled, read_nothing, window_fault, window_no_write, window_tells}
 use Rattle.stream_groups.proofs.filling.first_window.Goals as goal
 
@@ -26,6 +27,7 @@ loop-init g c =
       read = subst (HasRead left left [] 0) (sym c.new-window.ensures.rest) (read_nothing left);
       few = omega arith;
       faults = omega arith;
+      taken = takes_none left (g.S.Source.faults c.args.source.now) c.args.taken.now;
     }
 
 -- ---- a window that was not filled
@@ -116,6 +118,10 @@ pub returns-in-Ok-part_header-clause-no_write : goal.returns-in-Ok-part_header-c
 returns-in-Ok-part_header-clause-no_write g c =
     IfErr-weaker c.first_of.result _ _ (λ why memory e. let bad : stop.Memory ≡ stop.WriteFault = sym memory ∙ e in cc bad) c.first_of.ensures.why
 
+pub returns-in-Ok-part_header-clause-end : goal.returns-in-Ok-part_header-clause-end
+returns-in-Ok-part_header-clause-end g c =
+    IfOk-weaker c.first_of.result _ _ (λ f first last. (c.in-Ok.ensures.filled.last (sym first.last ∙ last)).1) c.first_of.ensures.first
+
 -- ---- one without a record
 
 pub loop-preserved : goal.loop-preserved
@@ -136,4 +142,46 @@ loop-preserved g c =
     let header : c.in_ok-window.window.header ≡ [] = next.header ∙ (ap (λ (w : Stretch). w.header) same ∙ (f.header ∙ c.loop.invariant.header)) in
     let rest : c.in_ok-window.window.rest ≡ full.rest = next.rest ∙ ap (λ (w : Stretch). w.rest) same in
     let left : HasRead from new [] c.in_ok-feeds.feeds c.in_ok-window.window.rest = subst (HasRead from new [] c.in_ok-feeds.feeds) (sym rest) (subst (λ (n : ℕ). HasRead from new [] n full.rest) (sym feeds) read) in
-    record { can_next = tt; finite = tt; header = header; lines = next.lines; read = left; few = c.in_ok-feeds.ensures.few; faults = omega (arith, c.loop.invariant.faults, c.in-Ok.ensures.faults) }
+    record {
+      can_next = tt;
+      finite = tt;
+      header = header;
+      lines = next.lines;
+      read = left;
+      few = c.in_ok-feeds.ensures.few;
+      faults = omega (arith, c.loop.invariant.faults, c.in-Ok.ensures.faults);
+      taken = takes_then (g.S.Source.left c.args.source.now) (g.S.Source.left c.loop.source) (g.S.Source.left c.fill.new.source) (g.S.Source.faults c.args.source.now) (g.S.Source.faults c.loop.source) (g.S.Source.faults c.fill.new.source) c.args.taken.now c.loop.taken c.fill.new.taken
+          c.loop.invariant.taken c.fill.ensures.taken;
+    }
+
+-- ---- what the source gave
+
+pub returns-in-Err-clause-taken : goal.returns-in-Err-clause-taken
+returns-in-Err-clause-taken g c =
+    takes_then (g.S.Source.left c.args.source.now) (g.S.Source.left c.loop.source) (g.S.Source.left c.fill.new.source) (g.S.Source.faults c.args.source.now) (g.S.Source.faults c.loop.source) (g.S.Source.faults c.fill.new.source) c.args.taken.now c.loop.taken c.fill.new.taken
+    c.loop.invariant.taken c.fill.ensures.taken
+
+pub returns-in-Ok-part_header-clause-taken : goal.returns-in-Ok-part_header-clause-taken
+returns-in-Ok-part_header-clause-taken g c =
+    takes_then (g.S.Source.left c.args.source.now) (g.S.Source.left c.loop.source) (g.S.Source.left c.fill.new.source) (g.S.Source.faults c.args.source.now) (g.S.Source.faults c.loop.source) (g.S.Source.faults c.fill.new.source) c.args.taken.now c.loop.taken c.fill.new.taken
+    c.loop.invariant.taken c.fill.ensures.taken
+
+pub returns-in-Err-NoHeader-clause-taken : goal.returns-in-Err-NoHeader-clause-taken
+returns-in-Err-NoHeader-clause-taken g c =
+    takes_then (g.S.Source.left c.args.source.now) (g.S.Source.left c.loop.source) (g.S.Source.left c.fill.new.source) (g.S.Source.faults c.args.source.now) (g.S.Source.faults c.loop.source) (g.S.Source.faults c.fill.new.source) c.args.taken.now c.loop.taken c.fill.new.taken
+    c.loop.invariant.taken c.fill.ensures.taken
+
+pub returns-in-Err-part_header-clause-taken : goal.returns-in-Err-part_header-clause-taken
+returns-in-Err-part_header-clause-taken g c =
+    takes_then (g.S.Source.left c.args.source.now) (g.S.Source.left c.loop.source) (g.S.Source.left c.fill.new.source) (g.S.Source.faults c.args.source.now) (g.S.Source.faults c.loop.source) (g.S.Source.faults c.fill.new.source) c.args.taken.now c.loop.taken c.fill.new.taken
+    c.loop.invariant.taken c.fill.ensures.taken
+
+pub returns-in_err-feeds-clause-taken : goal.returns-in_err-feeds-clause-taken
+returns-in_err-feeds-clause-taken g c =
+    takes_then (g.S.Source.left c.args.source.now) (g.S.Source.left c.loop.source) (g.S.Source.left c.fill.new.source) (g.S.Source.faults c.args.source.now) (g.S.Source.faults c.loop.source) (g.S.Source.faults c.fill.new.source) c.args.taken.now c.loop.taken c.fill.new.taken
+    c.loop.invariant.taken c.fill.ensures.taken
+
+pub returns-in_err-window-clause-taken : goal.returns-in_err-window-clause-taken
+returns-in_err-window-clause-taken g c =
+    takes_then (g.S.Source.left c.args.source.now) (g.S.Source.left c.loop.source) (g.S.Source.left c.fill.new.source) (g.S.Source.faults c.args.source.now) (g.S.Source.faults c.loop.source) (g.S.Source.faults c.fill.new.source) c.args.taken.now c.loop.taken c.fill.new.taken
+    c.loop.invariant.taken c.fill.ensures.taken

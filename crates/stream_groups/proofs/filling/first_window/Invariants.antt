@@ -1,5 +1,6 @@
 use Rattle.std.proofs.Common.{◌≡◌, ◌≤◌, ◌^◌, []}
 use Rattle.stream_groups.specs.Reading.{HasRead}
+use Rattle.stream_groups.specs.Taken.{Takes}
 use Rattle.stream_groups.proofs.filling.first_window.Given as goal
 
 -- no record was read so far
@@ -12,4 +13,5 @@ invariant-loop g l = record {
   read : HasRead (g.S.Source.left l.fn.source) (g.S.Source.left l.source) [] l.feeds l.window.rest;
   few : l.feeds ≤ 2 ^ 60;
   faults : g.S.Source.faults l.fn.source ≤ g.S.Source.faults l.source;
+  taken : Takes (g.S.Source.left l.fn.source) (g.S.Source.left l.source) (g.S.Source.faults l.fn.source) (g.S.Source.faults l.source) l.fn.taken l.taken;
 }

@@ -9,6 +9,7 @@ use Rattle.stream_groups.specs.Stops.{Tells}
 use Rattle.stream_groups.proofs.Gathering.{all_accepted}
 use Rattle.stream_groups.proofs.Refusals.{accepted_table, begins, have_columns}
 use Rattle.stream_groups.proofs.Streams.{next_header, next_part, next_reaches}
+use Rattle.stream_groups.proofs.Takes.{takes_none}
 use Rattle.stream_groups.proofs.Windows.{window_fault, window_no_write, window_tells}
 use Rattle.stream_groups.proofs.reading.next_window.Goals as goal
 
@@ -115,3 +116,15 @@ returns-clause-rows g c =
         part = λ _. next_part s.header s.batch now was.next was.before s.is_last c.in-Ok.is_last old new c.requires.stream.batch c.requires.more follow.header follow.rest follow.before filled from all read;
       },
     )
+
+pub returns-clause-end : goal.returns-clause-end
+returns-clause-end g c =
+    let old = g.S.Source.left c.args.source.now in
+    let new = g.S.Source.left c.add_and_fill.new.source in
+    let was = c.follow.new.self in
+    let now = c.add_and_fill.new.next in
+    let filled : IsFilledBatch old new was.next was.before now c.in-Ok.is_last = subst (λ (r : Result Bool WindowAnswer). IfOk r (IsFilledBatch old new was.next was.before now)) c.in-Ok.is c.in_ok-filled.ensures.filled in
+    filled.end
+
+pub returns-in_err-follow-clause-taken : goal.returns-in_err-follow-clause-taken
+returns-in_err-follow-clause-taken g c = takes_none (g.S.Source.left c.args.source.now) (g.S.Source.faults c.args.source.now) c.args.taken.now

@@ -22,7 +22,7 @@ returns-clause-stream c =
     record {
       batch = first_headed first.header first.window first.feeds c.in_ok-of_window.field-0 first.is_last c.requires.header c.requires.lined made.pieces made.header made.rest made.before made.feeds made.few;
       bound = c.requires.bound;
-      many = omega (arith, ap length c.in_ok-maps.ensures, length-replicate (c.workers.result + 1) (map.empty {K = List ℕ} {X = AggState} {R = key_cmp}), c.workers.ensures.value);
+      many = omega (arith, ap length c.in_ok-maps.ensures, length-replicate (c.args.workers + 1) (map.empty {K = List ℕ} {X = AggState} {R = key_cmp}));
       few = omega arith;
     }
 

@@ -1,10 +1,11 @@
-use Rattle.std.proofs.Common.{[], ◌+◌, ◌∷◌, arith, rules, subst}
+use Rattle.std.proofs.Common.{[], ◌+◌, ◌∷◌, ◌∙◌, arith, rules, subst, sym}
 use Rattle.csv_rows.specs.Records.{record_at}
 use Rattle.split_run.specs.Pieces.{piece_records, piece_rows}
 use Rattle.text_lines.specs.Feeds.{count_feeds}
 use Rattle.stream_groups.specs.Reading.{Begins}
 use Rattle.stream_groups.specs.Stops.{Tells}
 use Rattle.stream_groups.proofs.Refusals.{begins, missing_tells}
+use Rattle.stream_groups.proofs.Takes.{takes_then}
 use Rattle.stream_groups.proofs.reading.read_groups.Goals as goal
 
 pub returns-in_err-first-clause-why : goal.returns-in_err-first-clause-why
@@ -30,7 +31,7 @@ loop-init g c =
     let left = g.S.Source.left c.first_window.new.source in
     let first = c.in_ok-first.ensures in
     let made = c.in_ok-stream.ensures in
-    record { can_next = tt; finite = tt; stream = made.stream; rows = ([], made.rows from left first.reaches first.part); faults = first.faults }
+    record { can_next = tt; finite = tt; stream = made.stream; rows = ([], made.rows from left first.reaches first.part); faults = first.faults; taken = c.first_window.ensures.taken; end = λ e. first.end (sym made.last ∙ e) }
 
 pub returns-in_err-stream-2-clause-why : goal.returns-in_err-stream-2-clause-why
 returns-in_err-stream-2-clause-why g c =
@@ -44,4 +45,19 @@ loop-preserved g c =
     let from = g.S.Source.left c.args.source.now in
     let has = c.loop.invariant.rows in
     let next = c.in_ok-stream-2.ensures in
-    record { can_next = tt; finite = tt; stream = next.stream; rows = next.rows from has.0 has.1; faults = omega (arith, c.loop.invariant.faults, next.faults) }
+    record {
+      can_next = tt;
+      finite = tt;
+      stream = next.stream;
+      rows = next.rows from has.0 has.1;
+      faults = omega (arith, c.loop.invariant.faults, c.next_window.ensures.faults);
+      taken = takes_then from (g.S.Source.left c.loop.source) (g.S.Source.left c.next_window.new.source) (g.S.Source.faults c.args.source.now) (g.S.Source.faults c.loop.source) (g.S.Source.faults c.next_window.new.source) c.args.taken.now c.loop.taken c.next_window.new.taken
+          c.loop.invariant.taken c.next_window.ensures.taken;
+      end = next.end;
+    }
+
+pub returns-in_err-stream-2-clause-taken : goal.returns-in_err-stream-2-clause-taken
+returns-in_err-stream-2-clause-taken g c =
+    let from = g.S.Source.left c.args.source.now in
+    takes_then from (g.S.Source.left c.loop.source) (g.S.Source.left c.next_window.new.source) (g.S.Source.faults c.args.source.now) (g.S.Source.faults c.loop.source) (g.S.Source.faults c.next_window.new.source) c.args.taken.now c.loop.taken c.next_window.new.taken
+    c.loop.invariant.taken c.next_window.ensures.taken

@@ -1,13 +1,14 @@
-use Rattle.std.proofs.Common.{◌≡◌, ◌+◌, ◌++◌, ◌∷◌, ◌∙◌, [], ℕ, List, Ok, ap, refl, subst}
+use Rattle.std.proofs.Common.{◌≡◌, ◌+◌, ◌++◌, ◌∷◌, ◌∙◌, [], ℕ, List, ap, refl, subst}
 use Rattle.row_windows.specs.Stretch.{Stretch}
+use Rattle.row_windows.specs.declared.window.WindowAnswer.TheVariants as answer
 use Rattle.text_lines.specs.Feeds.{count_feeds}
-use Rattle.stream_groups.proofs.Windows.{is_filled}
+use Rattle.stream_groups.specs.Reading.{IsNotFilled}
 use Rattle.stream_groups.proofs.batch.Batch.add_piece.Goals as goal
 
 pub returns-clause-added : goal.returns-clause-added
 returns-clause-added g c =
     let was = c.args.self.now in
-    let piece = c.fill.new.self in
+    let piece = c.fill.new.window in
     let e = c.in-Ok.ensures in
     let follows = c.in-Ok-follow.ensures in
     let next = c.replace-piece.ensures.after in
@@ -17,7 +18,7 @@ returns-clause-added g c =
     record {
       piece = piece;
       pieces = all;
-      filled = is_filled (g.S.Source.left c.args.source.now) (g.S.Source.left c.fill.new.source) was.next piece (Ok c.in-Ok.last) e.header e.reads e.last e.seam;
+      filled = e.filled;
       header = ap (λ (w : Stretch). w.header) next ∙ follows.header;
       lines = ap (λ (w : Stretch). w.lines) next ∙ follows.lines;
       rest = ap (λ (w : Stretch). w.rest) next ∙ follows.rest;
@@ -27,4 +28,12 @@ returns-clause-added g c =
     }
 
 pub returns-in-Err-clause-long : goal.returns-in-Err-clause-long
-returns-in-Err-clause-long g c = λ e. record { pieces = refl; next = c.in-Err.ensures.long e; before = refl; feeds = refl }
+returns-in-Err-clause-long g c = λ e.
+    let is : c.in-Err.why ≡ answer.LongRecord = cc e in
+    let next = subst (IsNotFilled (g.S.Source.left c.args.source.now) (g.S.Source.left c.fill.new.source) (g.S.Source.faults c.args.source.now) (g.S.Source.faults c.fill.new.source) c.args.self.now.next c.fill.new.window) is c.in-Err.ensures.why in
+    record { pieces = refl; next = next; before = refl; feeds = refl }
+
+pub returns-in-Err-clause-read_fault : goal.returns-in-Err-clause-read_fault
+returns-in-Err-clause-read_fault g c = λ e.
+    let is : c.in-Err.why ≡ answer.ReadFault = cc e in
+    subst (IsNotFilled (g.S.Source.left c.args.source.now) (g.S.Source.left c.fill.new.source) (g.S.Source.faults c.args.source.now) (g.S.Source.faults c.fill.new.source) c.args.self.now.next c.fill.new.window) is c.in-Err.ensures.why

@@ -5,6 +5,7 @@ use Rattle.std.specs.Global.{Vec}
 use Rattle.row_windows.specs.Stretch.{Stretch}
 use Rattle.stream_groups.specs.Reading.{AddsPiece, MeetsLong}
 use Rattle.stream_groups.proofs.Batches.{long_filled, no_items, none_filled, one_filled}
+use Rattle.stream_groups.proofs.Takes.{takes_none, takes_then}
 use Rattle.stream_groups.proofs.Feeds.{feeds_none}
 use Rattle.stream_groups.proofs.batch.Batch.fill.Goals as goal
 
@@ -18,6 +19,7 @@ loop-at-init g c =
       none = λ _. refl;
       rest = λ _. refl;
       faults = omega arith;
+      taken = takes_none (g.S.Source.left c.args.source.now) (g.S.Source.faults c.args.source.now) c.args.taken.now;
     }
 
 pub returns-in-Ok-true-clause-filled : goal.returns-in-Ok-true-clause-filled
@@ -41,6 +43,10 @@ returns-in-Err-LongRecord-clause-filled g c =
 none_of : (ws : List Stretch) → length ws ≡ 0 → ws ≡ []
 none_of [] e = refl
 none_of (w ∷ ws) e = absurd (omega (arith, e))
+
+pub returns-in-Ok-true-clause-taken : goal.returns-in-Ok-true-clause-taken
+returns-in-Ok-true-clause-taken g c = takes_then (g.S.Source.left c.args.source.now) (g.S.Source.left c.loop-at.source) (g.S.Source.left c.add_piece.new.source) (g.S.Source.faults c.args.source.now) (g.S.Source.faults c.loop-at.source) (g.S.Source.faults c.add_piece.new.source) c.args.taken.now c.loop-at.taken c.add_piece.new.taken
+    c.loop-at.invariant.taken c.add_piece.ensures.taken
 
 -- if there are no windows, the record that is too long comes first
 pub returns-then-is_empty-clause-feeds : goal.returns-then-is_empty-clause-feeds
@@ -70,4 +76,23 @@ loop-at-preserved g c =
       none = λ e. absurd (omega (arith, size, ap length e));
       rest = λ e. absurd (omega (arith, size, ap length e));
       faults = omega (arith, c.loop-at.invariant.faults, c.add_piece.ensures.faults);
+      taken = takes_then (g.S.Source.left c.args.source.now) (g.S.Source.left c.loop-at.source) (g.S.Source.left c.add_piece.new.source) (g.S.Source.faults c.args.source.now) (g.S.Source.faults c.loop-at.source) (g.S.Source.faults c.add_piece.new.source) c.args.taken.now c.loop-at.taken c.add_piece.new.taken
+          c.loop-at.invariant.taken c.add_piece.ensures.taken;
     }
+
+-- ---- what the source gave
+
+pub returns-then-is_empty-clause-taken : goal.returns-then-is_empty-clause-taken
+returns-then-is_empty-clause-taken g c =
+    takes_then (g.S.Source.left c.args.source.now) (g.S.Source.left c.loop-at.source) (g.S.Source.left c.add_piece.new.source) (g.S.Source.faults c.args.source.now) (g.S.Source.faults c.loop-at.source) (g.S.Source.faults c.add_piece.new.source) c.args.taken.now c.loop-at.taken c.add_piece.new.taken
+    c.loop-at.invariant.taken c.add_piece.ensures.taken
+
+pub returns-in-Err-LongRecord-clause-taken : goal.returns-in-Err-LongRecord-clause-taken
+returns-in-Err-LongRecord-clause-taken g c =
+    takes_then (g.S.Source.left c.args.source.now) (g.S.Source.left c.loop-at.source) (g.S.Source.left c.add_piece.new.source) (g.S.Source.faults c.args.source.now) (g.S.Source.faults c.loop-at.source) (g.S.Source.faults c.add_piece.new.source) c.args.taken.now c.loop-at.taken c.add_piece.new.taken
+    c.loop-at.invariant.taken c.add_piece.ensures.taken
+
+pub returns-in-Err-clause-taken : goal.returns-in-Err-clause-taken
+returns-in-Err-clause-taken g c =
+    takes_then (g.S.Source.left c.args.source.now) (g.S.Source.left c.loop-at.source) (g.S.Source.left c.add_piece.new.source) (g.S.Source.faults c.args.source.now) (g.S.Source.faults c.loop-at.source) (g.S.Source.faults c.add_piece.new.source) c.args.taken.now c.loop-at.taken c.add_piece.new.taken
+    c.loop-at.invariant.taken c.add_piece.ensures.taken

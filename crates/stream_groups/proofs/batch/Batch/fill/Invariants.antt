@@ -1,5 +1,6 @@
 use Rattle.std.proofs.Common.{◌≡◌, ◌≤◌, [], false, length}
 use Rattle.stream_groups.specs.Reading.{IsFilledBatch}
+use Rattle.stream_groups.specs.Taken.{Takes}
 use Rattle.stream_groups.proofs.batch.Batch.fill.Given as goal
 
 -- the windows so far, and before the first of them nothing was read
@@ -10,4 +11,5 @@ invariant-loop-at g l = record {
   none : l.self.pieces.items ≡ [] → g.S.Source.left l.source ≡ g.S.Source.left l.fn.source;
   rest : l.self.pieces.items ≡ [] → l.self.next.rest ≡ l.fn.self.next.rest;
   faults : g.S.Source.faults l.fn.source ≤ g.S.Source.faults l.source;
+  taken : Takes (g.S.Source.left l.fn.source) (g.S.Source.left l.source) (g.S.Source.faults l.fn.source) (g.S.Source.faults l.source) l.fn.taken l.taken;
 }

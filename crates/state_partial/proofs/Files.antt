@@ -1,0 +1,127 @@
+-- The file of what was read.
+use Rattle.std.proofs.Common.{◌≡◌, ◌∷◌, ◌∙◌, ℕ, List, [], All, Option, None, Some, IfSome, ap, arith, length, refl, subst, sym}
+use Rattle.std.specs.FinMap as map
+use Rattle.std.specs.Prelude.{map as map_list}
+use Rattle.std.proofs.lemmas.List.Sorted.{length_permutation}
+use Rattle.csv_rows.specs.Records.{record_at, records_of}
+use Rattle.par_model.specs.Named.{bound_plan, missing_name}
+use Rattle.par_model.specs.Plan.{Plan}
+use Rattle.par_model.specs.declared.state.AggState.{AggState}
+use Rattle.partial_agg.specs.Groups.{GroupsByKey, key_cmp}
+use Rattle.partial_agg.specs.Listed.{group, listed}
+use Rattle.partial_agg.specs.declared.groups.Group.{Group as MapGroup}
+use Rattle.plan_spec.specs.Query.{Query}
+use Rattle.result_text.specs.Printable.{IsKeyOf}
+use Rattle.result_text.proofs.Uses.{printable-listed}
+use Rattle.state_blocks.specs.Blocks.{Group}
+use Rattle.state_head.specs.Head.{Preface, Subject}
+use Rattle.state_head.specs.declared.cover.Rows.{Rows}
+use Rattle.state_head.specs.declared.cover.Rows.TheVariants.{Counted, Refused}
+use Rattle.state_head.specs.declared.cover.Stretch.{Stretch}
+use Rattle.state_plan.specs.FilePlans.{AskFor, IsPlanOf, header_of}
+use Rattle.state_plan.specs.declared.file_plan.FilePlan.{FilePlan}
+use Rattle.state_save.specs.Saving.{AreTuplesOf, IsFileOf}
+use Rattle.state_whole.specs.Adding.{IsShapeOf}
+use Rattle.state_whole.specs.Files.{StateFile, file_bytes, tuples_in}
+use Rattle.state_whole.specs.declared.adding.Shape.{Shape}
+use Rattle.state_partial.specs.Parts.{IsPartText}
+use Rattle.state_partial.specs.Reads.{AreRowsOf, IsPartRead}
+use Rattle.state_law.specs.Sources.{whole_place}
+use Rattle.state_law.specs.Truth.{IsReadOf}
+use Rattle.state_partial.specs.Words.{Asked, asked_in}
+use Rattle.state_partial.specs.declared.reading.Part.{Part}
+
+nil_of_length : {A : Type 0} (xs : List A) → length xs ≡ 0 → xs ≡ []
+nil_of_length [] e = refl
+nil_of_length (x ∷ xs) e = absurd (omega (arith, e))
+
+-- a map with no groups lists none
+none_listed : (m : GroupsByKey) → m ≡ map.empty → listed m ≡ []
+none_listed m e =
+    let no : map.entries (map.empty {K = List ℕ} {X = AggState} {R = key_cmp}) ≡ [] = nil_of_length (map.entries map.empty) (sym (map.len-entries map.empty) ∙ map.len-empty key_cmp AggState) in
+    ap listed e ∙ ap (map_list group) no
+
+-- its file has no tuples
+no_tuples : (shape : Shape) (groups : List MapGroup) (tuples : List Group) → groups ≡ [] → AreTuplesOf shape groups tuples → tuples ≡ []
+no_tuples shape [] tuples e are = nil_of_length tuples (length_permutation [] tuples are.same)
+no_tuples shape (g ∷ groups) tuples e are = cc e
+
+-- ---- the keys of the groups
+
+module _ (query : Query) (header : List (List ℕ)) (count : ℕ) (count_is : count ≡ length (bound_plan header query.plan).groups) where
+  keys_in : (rows : Rows) (from : Option (List ℕ)) (m : GroupsByKey) → AreRowsOf query header from rows m → All (λ (g : MapGroup). IsKeyOf count g.key) (listed m)
+  keys_in (Counted many) from m are =
+      subst (λ (n : ℕ). All (λ (g : MapGroup). IsKeyOf n g.key) (listed m)) (sym count_is) (printable-listed (bound_plan header query.plan) are.rows m are.few are.are).keys
+  keys_in (Refused why) from m are = subst (All (λ (g : MapGroup). IsKeyOf count g.key)) (sym (none_listed m are.none)) (λ k d low. absurd (omega (arith, low)))
+
+-- a plan over the header of what was read
+bound_is : (query : Query) (from : Option (List ℕ)) (p : Part) (read : IsPartRead query from p) (s : Subject) (plan : FilePlan) → s.header ≡ p.header.items → IsPlanOf s plan → plan.plan ≡ query
+    → plan.bound ≡ bound_plan read.header query.plan
+bound_is query from p read s plan header is same =
+    let fields : header_of s ≡ read.header = ap (λ (l : List ℕ). record_at (records_of l) 0) header ∙ ap (λ (rs : List (List (List ℕ))). record_at rs 0) read.one in
+    is.bound ∙ (ap (λ (h : List (List ℕ)). bound_plan h plan.plan.plan) fields ∙ ap (λ (q : Query). bound_plan read.header q.plan) same)
+
+pub keys_read : (query : Query) (from : Option (List ℕ)) (p : Part) (read : IsPartRead query from p) (s : Subject) (plan : FilePlan) (shape : Shape) → s.header ≡ p.header.items → IsPlanOf s plan → plan.plan ≡ query
+    → IsShapeOf plan.bound shape → All (λ (g : MapGroup). IsKeyOf shape.columns g.key) (listed p.map)
+keys_read query from p read s plan shape header is same of_shape =
+    keys_in query read.header shape.columns (of_shape.columns ∙ ap (λ (b : Plan). length b.groups) (bound_is query from p read s plan header is same)) p.rows from p.map read.are
+
+-- ---- the file
+
+module _ (query : Query) (header : List (List ℕ)) (bytes : List ℕ) (shape : Shape) (of_shape : IsShapeOf (bound_plan header query.plan) shape) (source : ℕ) (f : StateFile) where
+  read_by : (rows : Rows) (m : GroupsByKey) → AreRowsOf query header (Some bytes) rows m → f.preface.cover ≡ record { place = whole_place source bytes; rows = rows } ∷ [] → AreTuplesOf shape (listed m) (tuples_in f)
+      → IsReadOf query.plan header (whole_place source bytes) bytes f
+  read_by (Counted many) m are cover tuples = record {
+    rows = are.rows;
+    records = are.all;
+    told = Counted many;
+    cover = cover;
+    are_told = (are.counted, are.none);
+    tuples = record { shape = shape; is_shape = of_shape; groups = m; are_groups = are.are; are = tuples };
+  }
+  read_by (Refused why) m are cover tuples = record {
+    rows = are.first.rows;
+    records = are.first.are;
+    told = Refused why;
+    cover = cover;
+    are_told = are.first.first;
+    tuples = no_tuples shape (listed m) (tuples_in f) (none_listed m are.none) tuples;
+  }
+
+-- the stretch of a part
+abbrev pub part_cover : ℕ → ℕ → Rows → List Stretch
+part_cover source size rows = record { place = record { source = source; from = 0; to = size; size = size }; rows = rows } ∷ []
+
+whole_is : (query : Query) (s : Subject) (plan : FilePlan) (header : List (List ℕ)) → header_of s ≡ header → IsPlanOf s plan → plan.plan ≡ query → missing_name header query.plan ≡ None
+whole_is query s plan header fields is same = subst (λ (q : Query). missing_name header q.plan ≡ None) same (subst (λ (h : List (List ℕ)). missing_name h plan.plan.plan ≡ None) fields is.whole)
+
+pub part_text : (words : List (List ℕ)) (asked : Asked) (query : Query) (from : Option (List ℕ)) (p : Part) (read : IsPartRead query from p) (pre : Preface) (plan : FilePlan) (shape : Shape) (groups : List MapGroup) (f : StateFile) (text : List ℕ)
+    → asked_in words ≡ Some asked → AskFor asked.words query → pre.subject.words ≡ asked.words → pre.subject.header ≡ p.header.items → pre.subject.sources ≡ asked.part.sources
+    → pre.cover ≡ part_cover asked.part.source p.size p.rows → pre.keys ≡ record { low = []; high = [] } → IsPlanOf pre.subject plan → plan.plan ≡ query → IsShapeOf plan.bound shape
+    → groups ≡ listed p.map → IsFileOf shape pre groups f → text ≡ file_bytes shape.kinds.now f → IfSome from (λ bytes. IsPartText words bytes text)
+part_text words asked query None p read pre plan shape groups f text is_asked ask words_are header sources cover keys is same of_shape groups_are is_file is_text = tt
+part_text words asked query (Some bytes) p read pre plan shape groups f text is_asked ask words_are header sources cover keys is same of_shape groups_are is_file is_text =
+    let bound = bound_is query (Some bytes) p read pre.subject plan header is same in
+    let shape_is : IsShapeOf (bound_plan read.header query.plan) shape = subst (λ (b : Plan). IsShapeOf b shape) bound of_shape in
+    let place : f.preface.cover ≡ record { place = whole_place asked.part.source bytes; rows = p.rows } ∷ [] =
+    ap (λ (pre : Preface). pre.cover) is_file.preface_is ∙ (cover ∙ ap (λ (n : ℕ). part_cover asked.part.source n p.rows) read.size) in
+    let fields : header_of pre.subject ≡ read.header = ap (λ (l : List ℕ). record_at (records_of l) 0) header ∙ ap (λ (rs : List (List (List ℕ))). record_at rs 0) read.one in
+    record {
+      asked = asked;
+      is_asked = is_asked;
+      file = f;
+      is_part = record {
+        query = query;
+        ask_for = ask;
+        header = read.header;
+        whole = whole_is query pre.subject plan read.header fields is same;
+        read = read_by query read.header bytes shape shape_is asked.part.source f p.rows p.map read.are place (subst (λ (gs : List MapGroup). AreTuplesOf shape gs (tuples_in f)) groups_are is_file.are);
+        words_are = ap (λ (pre : Preface). pre.subject.words) is_file.preface_is ∙ words_are;
+        header_is = ap (λ (pre : Preface). records_of pre.subject.header) is_file.preface_is ∙ (ap records_of header ∙ read.one);
+        sources_are = ap (λ (pre : Preface). pre.subject.sources) is_file.preface_is ∙ sources;
+        keys_are = ap (λ (pre : Preface). pre.keys) is_file.preface_is ∙ keys;
+      };
+      shape = shape;
+      is_shape = shape_is;
+      is_text = is_text;
+    }

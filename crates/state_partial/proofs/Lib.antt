@@ -1,0 +1,4 @@
+mod Commands
+mod Files
+mod Statuses
+mod Taken

@@ -1,0 +1,27 @@
+use Rattle.std.proofs.Common.{◌++◌, ◌∙◌, ℕ, All, List, ap, refl, subst, sym}
+use Rattle.partial_agg.specs.declared.groups.Group.{Group as MapGroup}
+use Rattle.result_text.specs.Printable.{IsKeyOf}
+use Rattle.state_whole.specs.Files.{file_bytes}
+use Rattle.state_partial.specs.Words.{asked_of}
+use Rattle.state_partial.proofs.Files.{keys_read, part_text}
+use Rattle.state_partial.proofs.file.file_of.Goals as goal
+
+pub push_file-requires-clause-shape : goal.push_file-requires-clause-shape
+push_file-requires-clause-shape c = c.shape.ensures.fits _ c.in-Ok.ensures.plan
+
+pub push_file-requires-clause-keys : goal.push_file-requires-clause-keys
+push_file-requires-clause-keys c =
+    let read = c.requires.read in
+    let shape = c.shape.result in
+    let is = c.in-Ok.ensures in
+    subst (All (λ (g : MapGroup). IsKeyOf shape.columns g.key)) (sym c.into_groups.ensures)
+    (keys_read c.args.plan read.0 c.args.part read.1 _ c.in-Ok.plan shape c.as_slice.ensures.value is.plan is.same (c.shape.ensures.of_plan _ is.plan))
+
+pub returns-in-Ok-push_file-clause-file : goal.returns-in-Ok-push_file-clause-file
+returns-in-Ok-push_file-clause-file c = λ words from is_asked read.
+    let file = c.in-Ok-push_file.ensures.file in
+    let shape = c.shape.result in
+    let is = c.in-Ok.ensures in
+    part_text words (asked_of c.args.asked.now) c.args.plan from c.args.part read _ c.in-Ok.plan shape c.into_groups.result file.0 c.push_file-2.new.out.items is_asked c.requires.ask c.plan_words.ensures c.as_slice.ensures.value refl
+    c.in-Ok-cover_of.ensures c.all_keys.ensures is.plan is.same (c.shape.ensures.of_plan _ is.plan) c.into_groups.ensures file.1
+    (file.2 ∙ ap (λ (l : List ℕ). l ++ file_bytes shape.kinds.now file.0) c.new-file.ensures.items)

@@ -1,0 +1,84 @@
+-- What the words of `partial` ask for.
+use Rattle.std.specs.Prelude.{◌==◌, ◌∷◌, [], ℕ, false, true, List, Option, Some, None, bytes_eq, codes, flat_map, if◌then◌else◌, length, nat_lt, option_and_then, option_map}
+use Rattle.std.specs.List.{after_first, before_first, list_any}
+use Rattle.clap.specs.Words.{App, new_app, with_rule}
+use Rattle.plan_spec.specs.Grammar.{number_in}
+use Rattle.plan_spec.specs.Options.{bare, is_command_line, option_of, repeated_of, value_of, values_of}
+use Rattle.plan_spec.specs.Query.{number_given, text_of}
+use Rattle.plan_spec.specs.declared.plan.TheConstants.{MOST_WORKERS}
+use Rattle.state_file.specs.Text.{text_bytes}
+use Rattle.state_head.specs.Words.{Words}
+use Rattle.state_partial.specs.declared.words.Given.{Given}
+use Rattle.state_partial.specs.declared.words.PartWords.{PartWords}
+use Rattle.state_partial.specs.declared.words.SourcePart.{SourcePart}
+use Rattle.state_partial.specs.declared.words.TheConstants.{MOST_SOURCES, WORKERS}
+
+-- the words of a plan as a head has them, the number of workers, and which of how many sources the part is
+pub record Asked : Type 0 where
+  pub words : Words
+  pub workers : ℕ
+  pub part : SourcePart
+
+abbrev pub asked_of : PartWords → Asked
+asked_of p = record { words = record { group = p.group.now; agg = p.agg.now; filter = p.filters.items; decimals = p.decimals.now }; workers = p.workers; part = p.part }
+
+-- the options of a plan, as the crate clap has them: those of parstream
+abbrev pub plan_command : App
+plan_command = with_rule (with_rule (with_rule (with_rule (with_rule (bare (new_app (codes "partial")))
+    (option_of (codes "group") false))
+    (option_of (codes "agg") true))
+    (repeated_of (codes "where")))
+    (option_of (codes "workers") false))
+    (option_of (codes "decimals") false)
+
+-- and which source
+abbrev pub partial_command : App
+partial_command = with_rule plan_command (option_of (codes "source") false)
+
+-- a text that has a byte; the empty one, if none is given
+abbrev pub text_given : Option (List ℕ) → Option (List ℕ)
+text_given None = Some []
+text_given (Some text) = if length text == 0 then None else Some text
+
+-- a source below the number of them
+abbrev pub source_by : Option ℕ → Option ℕ → Option SourcePart
+source_by source sources = option_and_then (λ i. option_and_then (λ n. if nat_lt i n then Some (record { source = i; sources = n }) else None) sources) source
+
+-- which of how many sources: `0/3`
+abbrev pub source_in : List ℕ → Option SourcePart
+source_in text =
+    if list_any (λ byte. byte == 47) text then source_by (number_in MOST_SOURCES (before_first (λ byte. byte == 47) text)) (number_in MOST_SOURCES (after_first (λ byte. byte == 47) text))
+    else None
+
+-- the only one, if none is given
+abbrev pub source_given : Option (List ℕ) → Option SourcePart
+source_given None = Some (record { source = 0; sources = 1 })
+source_given (Some text) = source_in text
+
+-- filters as a head has them
+abbrev pub filters_of : List (List ℕ) → List ℕ
+filters_of texts = flat_map text_bytes texts
+
+-- what all values ask for, if each is one
+abbrev pub asked_by : Option (List ℕ) → Option (List ℕ) → Option (List ℕ) → List ℕ → Option ℕ → Option SourcePart → Option Asked
+asked_by group agg decimals filters workers part =
+    option_and_then (λ g. option_and_then (λ a. option_and_then (λ d. option_and_then (λ w. option_map (λ p.
+    record { words = record { group = g; agg = a; filter = filters; decimals = d }; workers = w; part = p })
+    part) workers) decimals) agg) group
+
+-- what values ask for as they were given
+abbrev pub given_by : Given → Option Asked
+given_by g = asked_by (text_given (text_of g.group)) (text_given (text_of g.agg)) (text_given (text_of g.decimals)) g.filters.items (number_given MOST_WORKERS WORKERS (text_of g.workers)) (source_given (text_of g.source))
+
+-- what the words after `partial` ask for, if they do: clap takes them, and each value reads
+unfoldable pub asked_in : List (List ℕ) → Option Asked
+asked_in words =
+    if is_command_line partial_command words
+    then asked_by (text_given (value_of partial_command (codes "group") words)) (text_given (value_of partial_command (codes "agg") words)) (text_given (value_of partial_command (codes "decimals") words))
+    (filters_of (values_of partial_command (codes "where") words)) (number_given MOST_WORKERS WORKERS (value_of partial_command (codes "workers") words)) (source_given (value_of partial_command (codes "source") words))
+    else None
+
+-- the words after `partial`, if that is the first one
+abbrev pub words_after : List (List ℕ) → Option (List (List ℕ))
+words_after [] = None
+words_after (word ∷ rest) = if bytes_eq word (codes "partial") then Some rest else None

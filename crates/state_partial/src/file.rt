@@ -1,0 +1,116 @@
+//! The file of a part.
+
+ghost use Rattle.std.specs.Prelude.{◌≡◌, ◌⊎◌, ◌∷◌, [], ℕ, List, Option, IfErr, IfOk, IfSome, Some};
+ghost use Rattle.state_head.specs.Head.{subject_of};
+ghost use Rattle.state_head.specs.Words.{keys_of, words_of};
+ghost use Rattle.state_plan.specs.FilePlans.{AskFor, IsPlanOf};
+ghost use Rattle.state_partial.specs.Parts.{IsPartText};
+ghost use Rattle.state_partial.specs.Reads.{IsPartRead};
+ghost use Rattle.state_partial.specs.Words.{asked_in, asked_of};
+ghost use Rattle.state_partial.specs.declared.no_part.NoPart.TheVariants as no_part;
+ghost use Rattle.stream_groups.specs.declared.stop.Stop.TheVariants as stop;
+
+use crate::no_part::NoPart;
+use crate::reading::Part;
+use crate::words::PartWords;
+use csv_rows::rows;
+use plan_spec::Plan;
+use state_head::{Head, KeyRange, Place, Rows, Stretch, Whole};
+use state_lanes::{kinds_of, lanes_of};
+use state_plan::FilePlan;
+use state_save::push_file;
+use state_writer::WriteError;
+use std::alloc::{AllocError, Global};
+use stream_groups::Stop;
+
+/// The file of a part, which is all of its source.
+pub(crate) fn file_of(
+    alloc: Global,
+    asked: &PartWords<'_>,
+    plan: Plan,
+    part: Part,
+) -> Result<Vec<u8>, NoPart>
+    requires ask { AskFor (asked_of asked.now).words plan }
+    requires read { (from : Option (List ℕ)) × IsPartRead plan from part }
+    ensures file { IfOk result (λ file. (words : List (List ℕ)) (from : Option (List ℕ)) → asked_in words ≡ Some (asked_of asked.now) → IsPartRead plan from part → IfSome from (λ bytes. IsPartText words bytes file.items)) }
+    ensures why { IfErr result (λ why. (why ≡ no_part.Long) ⊎ (why ≡ no_part.Stopped stop.Memory)) }
+{
+    let Part {
+        header,
+        rows,
+        map,
+        size,
+    } = part;
+    let whole = Whole {
+        words: asked.plan_words(),
+        header: header.as_slice(),
+        sources: asked.part.sources,
+    };
+    let Ok(plan) = file_plan(alloc, plan, whole) else {
+        return Err(NoPart::Stopped(Stop::Memory));
+    };
+    let Ok(cover) = cover_of(alloc, asked.part.source, size, rows) else {
+        return Err(NoPart::Stopped(Stop::Memory));
+    };
+    let head = Head {
+        whole,
+        cover,
+        range: all_keys(),
+    };
+    let mut file = Vec::new(alloc);
+    match push_file(alloc, &mut file, &head, &map.into_groups(), &plan.shape()) {
+        Ok(()) => Ok(file),
+        Err(WriteError::Memory) => Err(NoPart::Stopped(Stop::Memory)),
+        Err(WriteError::Long) => Err(NoPart::Long),
+    }
+}
+
+/// No bounds.
+fn all_keys<'a>() -> KeyRange<'a>
+    ensures { keys_of result ≡ record { low = []; high = [] } }
+{
+    KeyRange {
+        low: b"",
+        high: b"",
+    }
+}
+
+/// The one stretch that is all bytes of a source.
+fn cover_of(alloc: Global, source: u32, size: u64, rows: Rows) -> Result<Vec<Stretch>, AllocError>
+    ensures { IfOk result (λ cover. cover.items ≡ record { place = record { source = source; from = 0; to = size; size = size }; rows = rows } ∷ []) }
+{
+    let place = Place {
+        source,
+        from: 0,
+        to: size,
+        size,
+    };
+    let mut cover = Vec::new(alloc);
+    cover.push(Stretch { place, rows })?;
+    Ok(cover)
+}
+
+/// The plan over the columns of a header that it was read with, which is one record and has them.
+fn file_plan(alloc: Global, plan: Plan, whole: Whole<'_>) -> Result<FilePlan, AllocError>
+    requires { AskFor (words_of whole.words) plan }
+    ensures plan { IfOk result (IsPlanOf (subject_of whole.entry)) }
+    ensures same { IfOk result (λ made. made.plan ≡ plan) }
+{
+    let Ok(header) = rows(alloc, whole.header) else {
+        return Err(AllocError);
+    };
+    if header.count() > 0 {
+        return Err(AllocError);
+    }
+    let Ok(bound) = plan.bind(&header) else {
+        return Err(AllocError);
+    };
+    let lanes = lanes_of(alloc, bound.items())?;
+    let kinds = kinds_of(alloc, lanes.as_slice())?;
+    Ok(FilePlan {
+        plan,
+        bound,
+        lanes,
+        kinds,
+    })
+}

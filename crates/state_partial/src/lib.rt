@@ -1,0 +1,17 @@
+//! What the rows of one source come to, as a file of partial states: `parstream partial [--source I/N] PLAN < PART > STATES`.
+//!
+//! The source is read to its end before anything is written. A refused row is told by the file, and is no failure: the status is that of a
+//! file that was written.
+
+#![tactic(auto)]
+
+mod drain;
+mod file;
+mod groups;
+mod no_part;
+mod partial;
+mod reading;
+mod words;
+
+pub use no_part::{NoPart, WRITTEN};
+pub use partial::{part_words, partial_states};

@@ -1,0 +1,184 @@
+//! The words, the reading and the file, one after another.
+
+ghost use Rattle.std.specs.Prelude.{◌≡◌, ◌≢◌, ◌⊎◌, ◌≤◌, ℕ, List, IfErr, IfOk, IfSome, IsNone, OnOk, Some, option_map, take};
+ghost use Rattle.std.specs.Io.KnownBytes.{Appends};
+ghost use Rattle.answer_text.specs.Lines.{IsSaid};
+ghost use Rattle.answer_text.specs.Words.{texts};
+ghost use Rattle.answer_text.specs.declared.status.TheConstants.{READ_FAULT, WRITE_FAULT};
+ghost use Rattle.par_io.specs.Faults.{Rose};
+ghost use Rattle.state_partial.specs.NoPart.{IsNoPart, no_part_says};
+ghost use Rattle.state_partial.specs.Parts.{IsPartText};
+ghost use Rattle.state_partial.specs.Words.{asked_in, asked_of, words_after};
+ghost use Rattle.state_partial.specs.declared.no_part.NoPart.{NoPart};
+ghost use Rattle.state_partial.specs.declared.no_part.NoPart.TheVariants as no_part;
+ghost use Rattle.state_plan.specs.FilePlans.{AskFor, HaveNoQuery};
+ghost use Rattle.state_plan.specs.declared.file_plan.PlanFault.TheVariants as fault;
+ghost use Rattle.stream_groups.specs.Lines.{line};
+ghost use Rattle.stream_groups.specs.declared.stop.Stop.TheVariants as stop;
+
+use crate::file::file_of;
+use crate::no_part::{NoPart, WRITTEN};
+use crate::reading::read_part;
+use crate::words::PartWords;
+use par_io::{Sink, Source, write_whole};
+use plan_spec::{MOST_WORKERS, Plan, PlanAnswer};
+use state_plan::command_words;
+use std::alloc::Global;
+use std::sync::Wait;
+use std::thread::Threads;
+use stream_groups::{Progress, Stop};
+
+/// The words after `partial`, if that is the first of the words after the program's name.
+pub fn part_words(words: &[String]) -> Option<&[String]>
+    ensures { option_map (λ rest. texts rest.now) result ≡ words_after (texts words.now) }
+{
+    match words.split_first() {
+        Some((word, rest)) if word.as_str() == "partial" => Some(rest),
+        _ => None,
+    }
+}
+
+/// Reads a source whole and writes the file that its rows come to by the plan of the words, those after `partial`; or a line to `err` that
+/// says why there is none; the exit status. The source is read in batches of `window_bytes`, by as many workers as the words ask for
+/// beside the caller's thread, and how far the reading has come is told to `progress`.
+///
+/// Time is linear in the input, but for the look-up of each row's group and the order of the groups. Memory is that of
+/// [`read_groups`], the groups, and the file.
+pub fn partial_states<R: Threads + Wait + Sync, S: Source, O: Sink, E: Sink, P: Progress>(
+    rt: &R,
+    alloc: Global,
+    words: &[String],
+    source: &mut S,
+    out: &mut O,
+    err: &mut E,
+    window_bytes: usize,
+    progress: &mut P,
+) -> u8
+    // `out` receives the file, or a prefix of it if a write failed, and on every other status nothing.
+    ensures states { result ≡ WRITTEN → IfSome (S.left source.old) (λ bytes.
+        (text : List ℕ) × IsPartText (texts words.now) bytes text × Appends (O.taken out.old) (O.taken out.new) text) }
+    ensures part { result ≡ WRITE_FAULT → IfSome (S.left source.old) (λ bytes.
+        (text : List ℕ) × IsPartText (texts words.now) bytes text × (n : ℕ) × Appends (O.taken out.old) (O.taken out.new) (take n text)) }
+    ensures nothing { (result ≢ WRITTEN) → (result ≢ WRITE_FAULT) → out.new ≡ out.old }
+
+    // On every other status than that of a file there is a reason, which is one of the words and the bytes; the status is the reason's, and
+    // so is the line that `err` receives, or a prefix of it if a write of it failed. A fault is answered only if it came in this call.
+    ensures why { (result ≢ WRITTEN) → (why : NoPart) × IsNoPart (texts words.now) (S.left source.old) why × (result ≡ (no_part_says why).0)
+        × IsSaid (E.taken err.old) (E.taken err.new) (E.faults err.old) (E.faults err.new) (line (no_part_says why).1) }
+    ensures read_fault { result ≡ READ_FAULT → Rose (S.faults source.old) (S.faults source.new) }
+    ensures write_fault { result ≡ WRITE_FAULT → Rose (O.faults out.old) (O.faults out.new) }
+    ensures quiet { result ≡ WRITTEN → err.new ≡ err.old }
+
+    // Words that ask for no part are answered before anything is read.
+    ensures unread { IsNone (asked_in (texts words.now)) → source.new ≡ source.old }
+{
+    match write_part(rt, alloc, words, source, out, window_bytes, progress) {
+        Ok(()) => WRITTEN,
+        Err(why) => why.end(err),
+    }
+}
+
+/// Reads the words and the source, and writes the file.
+fn write_part<R: Threads + Wait + Sync, S: Source, O: Sink, P: Progress>(
+    rt: &R,
+    alloc: Global,
+    words: &[String],
+    source: &mut S,
+    out: &mut O,
+    window_bytes: usize,
+    progress: &mut P,
+) -> Result<(), NoPart>
+    ensures states { OnOk result (IfSome (S.left source.old) (λ bytes.
+        (text : List ℕ) × IsPartText (texts words.now) bytes text × Appends (O.taken out.old) (O.taken out.new) text)) }
+    ensures part { IfErr result (λ why. why ≡ no_part.Stopped stop.WriteFault → IfSome (S.left source.old) (λ bytes.
+        (text : List ℕ) × IsPartText (texts words.now) bytes text × (n : ℕ) × Appends (O.taken out.old) (O.taken out.new) (take n text))) }
+    ensures nothing { IfErr result (λ why. (why ≢ no_part.Stopped stop.WriteFault) → out.new ≡ out.old) }
+    ensures why { IfErr result (IsNoPart (texts words.now) (S.left source.old)) }
+    ensures read_fault { IfErr result (λ why. why ≡ no_part.Stopped stop.ReadFault → Rose (S.faults source.old) (S.faults source.new)) }
+    ensures write_fault { IfErr result (λ why. why ≡ no_part.Stopped stop.WriteFault → Rose (O.faults out.old) (O.faults out.new)) }
+    ensures unread { IsNone (asked_in (texts words.now)) → source.new ≡ source.old }
+{
+    let file = match make_part(rt, alloc, words, source, window_bytes, progress) {
+        Ok(file) => file,
+        Err(why) => return Err(why),
+    };
+    match write_whole(out, file.as_slice()) {
+        Ok(()) => Ok(()),
+        Err(_) => Err(NoPart::Stopped(Stop::WriteFault)),
+    }
+}
+
+/// Reads the words and the source, and makes the file.
+fn make_part<R: Threads + Wait + Sync, S: Source, P: Progress>(
+    rt: &R,
+    alloc: Global,
+    words: &[String],
+    source: &mut S,
+    window_bytes: usize,
+    progress: &mut P,
+) -> Result<Vec<u8>, NoPart>
+    ensures file { IfOk result (λ file. IfSome (S.left source.old) (λ bytes. IsPartText (texts words.now) bytes file.items)) }
+    ensures why { IfErr result (IsNoPart (texts words.now) (S.left source.old)) }
+    ensures read_fault { IfErr result (λ why. why ≡ no_part.Stopped stop.ReadFault → Rose (S.faults source.old) (S.faults source.new)) }
+    ensures no_write { IfErr result (λ why. (why ≡ no_part.Stopped stop.WriteFault) → ⊥) }
+    ensures unread { IsNone (asked_in (texts words.now)) → source.new ≡ source.old }
+{
+    let Ok(found) = PartWords::of_words(alloc, words) else {
+        return Err(NoPart::Stopped(Stop::Memory));
+    };
+    match found {
+        Some(asked) => make_asked(rt, alloc, &asked, source, window_bytes, progress),
+        None => Err(NoPart::Usage),
+    }
+}
+
+/// Reads the source, and makes the file that is asked for.
+fn make_asked<R: Threads + Wait + Sync, S: Source, P: Progress>(
+    rt: &R,
+    alloc: Global,
+    asked: &PartWords<'_>,
+    source: &mut S,
+    window_bytes: usize,
+    progress: &mut P,
+) -> Result<Vec<u8>, NoPart>
+    requires workers { asked.now.workers ≤ MOST_WORKERS }
+    ensures file { IfOk result (λ file. (words : List (List ℕ)) → asked_in words ≡ Some (asked_of asked.now) → IfSome (S.left source.old) (λ bytes. IsPartText words bytes file.items)) }
+    ensures why { IfErr result (λ why. (words : List (List ℕ)) → asked_in words ≡ Some (asked_of asked.now) → IsNoPart words (S.left source.old) why) }
+    ensures read_fault { IfErr result (λ why. why ≡ no_part.Stopped stop.ReadFault → Rose (S.faults source.old) (S.faults source.new)) }
+    ensures no_write { IfErr result (λ why. (why ≡ no_part.Stopped stop.WriteFault) → ⊥) }
+{
+    let plan = match plan_of(alloc, asked) {
+        Ok(plan) => plan,
+        Err(why) => return Err(why),
+    };
+    match read_part(
+        rt,
+        alloc,
+        &plan,
+        asked.workers,
+        source,
+        window_bytes,
+        progress,
+    ) {
+        Ok(part) => file_of(alloc, asked, plan, part),
+        Err(stop) => Err(NoPart::Stopped(stop)),
+    }
+}
+
+/// The plan that is asked for.
+fn plan_of(alloc: Global, asked: &PartWords<'_>) -> Result<Plan, NoPart>
+    ensures plan { IfOk result (AskFor (asked_of asked.now).words) }
+    ensures why { IfErr result (λ why. ((why ≡ no_part.Usage) × HaveNoQuery (asked_of asked.now).words fault.Words) ⊎ (why ≡ no_part.Stopped stop.Memory)) }
+{
+    let Ok(found) = command_words(alloc, asked.plan_words()) else {
+        return Err(NoPart::Stopped(Stop::Memory));
+    };
+    let Some(command) = found else {
+        return Err(NoPart::Usage);
+    };
+    match Plan::of_stream_words(alloc, command.as_slice()) {
+        Ok(plan) => Ok(plan),
+        Err(PlanAnswer::Usage) => Err(NoPart::Usage),
+        Err(PlanAnswer::Memory) => Err(NoPart::Stopped(Stop::Memory)),
+    }
+}

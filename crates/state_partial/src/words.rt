@@ -1,0 +1,250 @@
+//! The words of `partial`: the options of a plan, and which of how many sources the part is.
+//!
+//! They are read by the crate `clap`, as parstream's words are (`plan_spec`), so an option is written in each way that it has there.
+
+ghost use Rattle.std.specs.Prelude.{◌≡◌, ◌≤◌, IfOk, IfSome, None, codes, map, option_map, true, false};
+ghost use Rattle.answer_text.specs.Words.{texts};
+ghost use Rattle.clap.specs.Words.{app_of, found_of, is_simple_and_free, matches_of, rows_of, with_rule};
+ghost use Rattle.plan_spec.specs.Options.{is_command_line, option_of, value_of, values_of};
+ghost use Rattle.plan_spec.specs.Query.{number_given, text_of};
+ghost use Rattle.state_head.specs.Words.{words_of};
+ghost use Rattle.state_partial.specs.Words.{asked_in, asked_of, filters_of, given_by, partial_command, plan_command, source_given, source_in, text_given};
+
+use clap::error::ErrorKind;
+use clap::{Arg, ArgAction, ArgMatches, Command};
+use plan_spec::{MOST_WORKERS, number};
+use state_file::push_text;
+use state_head::PlanWords;
+use std::alloc::{AllocError, Global};
+
+/// The most sources.
+const MOST_SOURCES: u32 = 65_536;
+
+/// The number of workers if the words ask for none.
+const WORKERS: u32 = 2;
+
+/// The values of the options, each as it was given. Those of `--where` are texts one after another.
+#[derive(Drop)]
+pub(crate) struct Given<'a> {
+    group: Option<&'a str>,
+    agg: Option<&'a str>,
+    decimals: Option<&'a str>,
+    filters: Vec<u8>,
+    workers: Option<&'a str>,
+    source: Option<&'a str>,
+}
+
+/// What the words ask for. The text of an option that was not given is empty.
+#[derive(Drop)]
+pub(crate) struct PartWords<'a> {
+    group: &'a str,
+    agg: &'a str,
+    decimals: &'a str,
+    filters: Vec<u8>,
+    pub(crate) workers: u32,
+    pub(crate) part: SourcePart,
+}
+
+/// A source, and how many there are.
+#[derive(Clone, Copy, Debug, PartialEq, Eq)]
+pub(crate) struct SourcePart {
+    pub(crate) source: u32,
+    pub(crate) sources: u32,
+}
+
+impl<'a> PartWords<'a> {
+    /// What some words ask for, if they do: they are options of a plan that have values, and `--source`.
+    pub(crate) fn of_words(
+        alloc: Global,
+        words: &'a [String],
+    ) -> Result<Option<PartWords<'a>>, AllocError>
+        ensures asked { IfOk result (λ found. option_map asked_of found ≡ asked_in (texts words.now)) }
+        ensures workers { IfOk result (λ found. IfSome found (λ asked. asked.workers ≤ MOST_WORKERS)) }
+    {
+        let given = given_values(alloc, words)?;
+        match given {
+            Some(given) => Ok(PartWords::of_values(given)),
+            None => Ok(None),
+        }
+    }
+
+    /// What values ask for.
+    fn of_values(given: Given<'a>) -> Option<PartWords<'a>>
+        ensures asked { option_map asked_of result ≡ given_by given.entry }
+        ensures workers { IfSome result (λ asked. asked.workers ≤ MOST_WORKERS) }
+    {
+        let Given {
+            group,
+            agg,
+            decimals,
+            filters,
+            workers,
+            source,
+        } = given;
+        let group = text_given(group)?;
+        let agg = text_given(agg)?;
+        let decimals = text_given(decimals)?;
+        let workers = workers_given(workers)?;
+        let part = source_given(source)?;
+        Some(PartWords {
+            group,
+            agg,
+            decimals,
+            filters,
+            workers,
+            part,
+        })
+    }
+
+    /// Those of the plan.
+    pub(crate) fn plan_words(&self) -> PlanWords<'_>
+        ensures { words_of result ≡ (asked_of self.now).words }
+    {
+        PlanWords {
+            group: self.group.as_bytes(),
+            agg: self.agg.as_bytes(),
+            filter: self.filters.as_slice(),
+            decimals: self.decimals.as_bytes(),
+        }
+    }
+}
+
+/// A text that was given, which has a byte, or the empty one.
+fn text_given<'a>(given: Option<&'a str>) -> Option<&'a str>
+    ensures { option_map (λ s. s.now) result ≡ text_given (text_of given.entry) }
+{
+    match given {
+        Some(text) if text.is_empty() => None,
+        Some(text) => Some(text),
+        None => Some(""),
+    }
+}
+
+/// A number of workers that was given, or the one if none was.
+fn workers_given(given: Option<&str>) -> Option<u32>
+    ensures number { result ≡ number_given MOST_WORKERS WORKERS (text_of given.entry) }
+    ensures within { IfSome result (λ n. n ≤ MOST_WORKERS) }
+{
+    match given {
+        Some(text) => number(text, MOST_WORKERS),
+        None => Some(WORKERS),
+    }
+}
+
+/// Which of how many sources was given, or the only one.
+fn source_given(given: Option<&str>) -> Option<SourcePart>
+    ensures { result ≡ source_given (text_of given.entry) }
+{
+    match given {
+        Some(text) => source_of(text),
+        None => Some(SourcePart {
+            source: 0,
+            sources: 1,
+        }),
+    }
+}
+
+/// Which of how many sources, as `0/3`.
+fn source_of(text: &str) -> Option<SourcePart>
+    ensures { result ≡ source_in text.now }
+{
+    let (source, sources) = text.split_once('/')?;
+    let source = number(source, MOST_SOURCES)?;
+    let sources = number(sources, MOST_SOURCES)?;
+    if source < sources {
+        Some(SourcePart { source, sources })
+    } else {
+        None
+    }
+}
+
+/// What the words give for each option, if they are such a command line.
+fn given_values<'a>(alloc: Global, words: &'a [String]) -> Result<Option<Given<'a>>, AllocError>
+    ensures none { IfOk result (λ found. found ≡ None → is_command_line partial_command (texts words.now) ≡ false) }
+    ensures takes { IfOk result (λ found. IfSome found (λ _. is_command_line partial_command (texts words.now) ≡ true)) }
+    ensures group { IfOk result (λ found. IfSome found (λ g. text_of g.group ≡ value_of partial_command (codes "group") (texts words.now))) }
+    ensures agg { IfOk result (λ found. IfSome found (λ g. text_of g.agg ≡ value_of partial_command (codes "agg") (texts words.now))) }
+    ensures decimals { IfOk result (λ found. IfSome found (λ g. text_of g.decimals ≡ value_of partial_command (codes "decimals") (texts words.now))) }
+    ensures filters { IfOk result (λ found. IfSome found (λ g. g.filters.items ≡ filters_of (values_of partial_command (codes "where") (texts words.now)))) }
+    ensures workers { IfOk result (λ found. IfSome found (λ g. text_of g.workers ≡ value_of partial_command (codes "workers") (texts words.now))) }
+    ensures source { IfOk result (λ found. IfSome found (λ g. text_of g.source ≡ value_of partial_command (codes "source") (texts words.now))) }
+{
+    let command = partial(alloc)?;
+    let found = matches_in(command, words)?;
+    let Some(matches) = found else {
+        return Ok(None);
+    };
+    let filters = filter_texts(alloc, matches.get_strs("where").unwrap_or(&[]))?;
+    Ok(Some(Given {
+        group: matches.get_str("group"),
+        agg: matches.get_str("agg"),
+        decimals: matches.get_str("decimals"),
+        filters,
+        workers: matches.get_str("workers"),
+        source: matches.get_str("source"),
+    }))
+}
+
+/// Some values as texts one after another.
+fn filter_texts(alloc: Global, values: &[&str]) -> Result<Vec<u8>, AllocError>
+    ensures { IfOk result (λ bytes. bytes.items ≡ filters_of (map (λ value. value.now) values.now)) }
+{
+    let mut texts = Vec::new(alloc);
+    for value in values {
+        push_text(&mut texts, value.as_bytes())?;
+    }
+    Ok(texts)
+}
+
+/// The parse of the words by a command of which `clap` states the matches and the faults in full; none if it has a fault.
+fn matches_in<'a>(
+    command: Command<'a>,
+    words: &'a [String],
+) -> Result<Option<ArgMatches<'a>>, AllocError>
+    requires { is_simple_and_free (app_of command) ≡ true }
+    ensures takes { IfOk result (λ found. IfSome found (λ _. is_command_line (app_of command.entry) (texts words.now) ≡ true)) }
+    ensures rows { IfOk result (λ found. IfSome found (λ m. rows_of (found_of m) ≡ matches_of (app_of command.entry) (texts words.now))) }
+    ensures refuses { IfOk result (λ found. found ≡ None → is_command_line (app_of command.entry) (texts words.now) ≡ false) }
+{
+    match command.try_get_matches_from(words) {
+        Ok(matches) => Ok(Some(matches)),
+        Err(error) if error.kind() == ErrorKind::OutOfMemory => Err(AllocError),
+        Err(_) => Ok(None),
+    }
+}
+
+/// The command: the options of a plan, and which source.
+fn partial<'a>(alloc: Global) -> Result<Command<'a>, AllocError>
+    ensures { IfOk result (λ c. app_of c ≡ partial_command) }
+{
+    let plan = plan_options(alloc)?;
+    with_option(alloc, plan, "source", false)
+}
+
+/// A command with the five options of parstream, of which `--where` may be repeated.
+fn plan_options<'a>(alloc: Global) -> Result<Command<'a>, AllocError>
+    ensures { IfOk result (λ c. app_of c ≡ plan_command) }
+{
+    let bare = Command::new(alloc, "partial").no_binary_name(true);
+    let grouped = with_option(alloc, bare, "group", false)?;
+    let summed = with_option(alloc, grouped, "agg", true)?;
+    let filtered = summed.arg(
+        Arg::new(alloc, "where")
+            .long("where")
+            .action(ArgAction::Append),
+    )?;
+    let staffed = with_option(alloc, filtered, "workers", false)?;
+    with_option(alloc, staffed, "decimals", false)
+}
+
+/// A command with one more option, which takes one value.
+fn with_option<'a>(
+    alloc: Global,
+    command: Command<'a>,
+    name: &'a str,
+    is_required: bool,
+) -> Result<Command<'a>, AllocError>
+    ensures { IfOk result (λ c. app_of c ≡ with_rule (app_of command.entry) (option_of name.entry.now is_required)) }
+{
+    command.arg(Arg::new(alloc, name).long(name).required(is_required))
+}
