@@ -1,5 +1,5 @@
-/* The proved table between four processes: each adds 1 to each key in turn, and the parent reads the sums. Takes how many
- * additions there are in all. */
+/* The proved table between four processes: each adds 1 to each key in turn, and the parent counts the keys and reads the sums.
+ * Takes how many additions there are in all. */
 #define _GNU_SOURCE
 #include "lembokuj_try.h"
 #include "shared_heap.h"
@@ -22,7 +22,7 @@ static int add_all(lk_table_try *table, uint64_t count) {
 }
 
 int main(int argc, char **argv) {
-    uint64_t count = argc > 1 ? strtoull(argv[1], NULL, 10) : 200000, sum = 0, value;
+    uint64_t count = argc > 1 ? strtoull(argv[1], NULL, 10) : 200000, sum = 0, keys = 0, value;
     lk_table_try first = LK_BLANK, tables[CHILDREN];
     if (lk_heap_share(HEAP_BYTES) || lk_table_new_try(CHILDREN + 1, WORDS, &first)) return 1;
     for (int child = 0; child < CHILDREN; child++) {
@@ -36,6 +36,7 @@ int main(int argc, char **argv) {
     }
     int status, bad = 0;
     while (wait(&status) > 0) bad |= status;
+    if (lk_table_count_wait(&first, &keys) != LK_OK || keys != (count / CHILDREN < KEYS ? count / CHILDREN : KEYS)) return 5;
     for (uint64_t key = 0; key < KEYS; key++)
         if (lk_table_get_wait(&first, key, &value) == LK_OK) sum += value;
     if (bad || sum != count / CHILDREN * CHILDREN || lk_table_close_try(&first)) return 4;

@@ -79,7 +79,7 @@ enum {
     LK_WAITING = 7,        /* the caller has arrived at the barrier, and another has yet to */
     LK_GROWN = 4,          /* the key's partition has grown first, and nothing was done to the key: call again */
     LK_GONE = -17,         /* this side has left */
-    LK_SHORT_BUFFER = -18, /* the program's bytes have no room for the queue's greatest message */
+    LK_SHORT_BUFFER = -18, /* the program's bytes have no room for the queue's greatest message, or its rows for all entries */
     LK_IN_USE = -19,       /* a handle is not blank, or both pointers are one */
     LK_STILL_IN = -20,     /* lk_raw_queue_close: this side has not left yet; a close of an area: the caller has chunks */
     LK_SIDE_TAKEN = -21,   /* somebody else has this side of a queue in given memory */
@@ -387,7 +387,8 @@ typedef struct lk_table_try {
     uint64_t full;
 } lk_table_try;
 
-/* What liblk_table.a exports. Each pointer has to be good, and the two handles of lk_raw_table_share have to differ. */
+/* What liblk_table.a exports. Each pointer has to be good, the two handles of lk_raw_table_share have to differ, and what
+ * lk_raw_table_list writes has to lie apart: both rows and the count. */
 int32_t lk_raw_table_new(uint32_t callers, uint64_t words, lk_table_try *first);
 int32_t lk_raw_table_share(uint64_t words, lk_table_try *from, lk_table_try *next);
 int32_t lk_raw_table_put(lk_table_try *table, uint64_t key, uint64_t word, uint64_t *old);
@@ -396,6 +397,8 @@ int32_t lk_raw_table_put_absent(lk_table_try *table, uint64_t key, uint64_t word
 int32_t lk_raw_table_compare_and_swap(lk_table_try *table, uint64_t key, uint64_t expected, uint64_t word, uint64_t *old);
 int32_t lk_raw_table_get(lk_table_try *table, uint64_t key, uint64_t *word);
 int32_t lk_raw_table_delete(lk_table_try *table, uint64_t key, uint64_t *old);
+int32_t lk_raw_table_count(lk_table_try *table, uint32_t partition, uint64_t *keys);
+int32_t lk_raw_table_list(lk_table_try *table, uint32_t partition, uint64_t *keys, size_t keys_room, uint64_t *values, size_t values_room, uint64_t *count);
 int32_t lk_raw_table_close(lk_table_try *table);
 
 /* An empty table for this number of callers, and a handle of the first one, which has all words. The handle has to be blank.
@@ -451,6 +454,25 @@ static inline int lk_table_delete_try(lk_table_try *table, uint64_t key, uint64_
     return table ? lk_raw_table_delete(table, key, old ? old : &none) : LK_NULL;
 }
 
+enum { LK_PARTITIONS = 128 };
+
+/* LK_OK: *keys is how many keys a partition has, from 0 to LK_PARTITIONS - 1. LK_WOULD_BLOCK, LK_BAD_SIZE. */
+static inline int lk_table_count_try(lk_table_try *table, uint32_t partition, uint64_t *keys) {
+    return table && keys ? lk_raw_table_count(table, partition, keys) : LK_NULL;
+}
+
+/* LK_OK: keys[0 .. *count] are the keys of a partition, in no stated order, and values[0 .. *count] the values under them, each
+ * key once, all as they were at one moment; what follows in the two rows is as before. Each row has `room` places, and they lie
+ * apart. LK_SHORT_BUFFER: the partition has *count keys, more than the rows have places, and nothing was written to them. After
+ * LK_WOULD_BLOCK, LK_BAD_SIZE and LK_NO_MEMORY *count is 0 and the rows are as before; the library takes memory for the entries,
+ * 48 bytes each, until the call ends. A key has the same partition always, so a program that lists each partition once gets no
+ * key twice. */
+static inline int lk_table_list_try(lk_table_try *table, uint32_t partition, uint64_t *keys, uint64_t *values, size_t room, uint64_t *count) {
+    uint64_t none = 0;
+    if (!table || !count || ((!keys || !values) && room)) return LK_NULL;
+    return lk_raw_table_list(table, partition, keys ? keys : &none, room, values ? values : &none, room, count);
+}
+
 /* The caller goes, and the handle is blank. */
 static inline int lk_table_close_try(lk_table_try *table) {
     return table ? lk_raw_table_close(table) : LK_NULL;
@@ -503,6 +525,28 @@ static inline int lk_table_delete_wait(lk_table_try *table, uint64_t key, uint64
     unsigned tries = 0;
     int code;
     while (lk_table_again(code = lk_table_delete_try(table, key, old), &tries)) continue;
+    return code;
+}
+
+/* LK_OK: *keys is how many keys the table has, partition by partition, each at its own moment. */
+static inline int lk_table_count_wait(lk_table_try *table, uint64_t *keys) {
+    uint64_t sum = 0, some = 0;
+    if (!table || !keys) return LK_NULL;
+    for (uint32_t partition = 0; partition < LK_PARTITIONS; partition++) {
+        unsigned tries = 0;
+        int code;
+        while (lk_table_again(code = lk_table_count_try(table, partition, &some), &tries)) continue;
+        if (code != LK_OK) return code;
+        sum += some;
+    }
+    *keys = sum;
+    return LK_OK;
+}
+
+static inline int lk_table_list_wait(lk_table_try *table, uint32_t partition, uint64_t *keys, uint64_t *values, size_t room, uint64_t *count) {
+    unsigned tries = 0;
+    int code;
+    while (lk_table_again(code = lk_table_list_try(table, partition, keys, values, room, count), &tries)) continue;
     return code;
 }
 

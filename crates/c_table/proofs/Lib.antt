@@ -1,5 +1,6 @@
 pub mod Handles
 pub mod Lists
+pub mod Looks
 pub mod Owned
 pub mod Shares
 pub mod Slices

@@ -1,5 +1,6 @@
 -- What a call does to a handle, by its code. A blank handle has None.
-use Rattle.std.specs.Prelude.{◌≡◌, ℕ, ◌⊎◌, Option, None, Some, IsSome, Result, Ok, Err}
+use Rattle.std.specs.Prelude.{◌≡◌, ℕ, ◌⊎◌, List, Option, None, Some, IsSome, Result, Ok, Err}
+use Rattle.c_table.specs.Looks.{Counts, HasNothing, Lists}
 use Rattle.c_table.specs.Made.{IsFirst, IsFurther, IsRefused}
 use Rattle.c_table.specs.Tries.{Tries}
 use Rattle.c_table.specs.declared.code.Code.{Code}
@@ -17,6 +18,21 @@ Answers (Err why) before after code = (code ≡ why) × (after ≡ before)
 abbrev pub Changes : Option Share → Option Share → ℕ → WordCall → ℕ → ℕ → Code → Type 0
 Changes None new key call before after code = (new ≡ None) × (code ≡ Blank) × (after ≡ before)
 Changes (Some s) new key call before after code = (t : Share) × (answer : Result (Option ℕ) Code) × (new ≡ Some t) × Tries s t key call answer × Answers answer before after code
+
+-- what a count says by a code and a number that is written
+abbrev pub AnswersCount : Result ℕ Code → ℕ → ℕ → Code → Type 0
+AnswersCount (Ok keys) before after code = (code ≡ Done) × (after ≡ keys)
+AnswersCount (Err why) before after code = (code ≡ why) × (after ≡ before)
+
+-- a try to count the keys of a partition
+abbrev pub CountsKeys : Option Share → Option Share → ℕ → ℕ → ℕ → Code → Type 0
+CountsKeys None new partition before after code = (new ≡ None) × (code ≡ Blank) × (after ≡ before)
+CountsKeys (Some s) new partition before after code = (t : Share) × (answer : Result ℕ Code) × (new ≡ Some t) × Counts s t partition answer × AnswersCount answer before after code
+
+-- a try to list a partition
+abbrev pub ListsKeys : Option Share → Option Share → ℕ → List ℕ → List ℕ → List ℕ → List ℕ → Code → ℕ → Type 0
+ListsKeys None new partition keys words keys' words' code n = (new ≡ None) × (code ≡ Blank) × HasNothing keys words keys' words' n
+ListsKeys (Some s) new partition keys words keys' words' code n = (t : Share) × (new ≡ Some t) × Lists s t partition keys words keys' words' code n
 
 -- the caller goes, and the handle is blank
 abbrev pub Closes : Option Share → Option Share → Code → Type 0

@@ -3,6 +3,7 @@ pub mod Numbers
 pub mod Reserves
 pub mod Shares
 pub mod Tries
+pub mod Looks
 pub mod Made
 pub mod Codes
 pub mod Owned

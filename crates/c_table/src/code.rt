@@ -24,6 +24,8 @@ pub enum Code {
     BadCallers,
     /// The caller's own words have no room for what is lacking.
     NoSpace,
+    /// The caller's rows have no room for all entries.
+    ShortBuffer,
     /// The handle has something already.
     InUse,
 }
@@ -43,6 +45,7 @@ impl Code {
             Code::BadSize => -5,
             Code::BadCallers => -6,
             Code::NoSpace => -9,
+            Code::ShortBuffer => -18,
             Code::InUse => -19,
         }
     }

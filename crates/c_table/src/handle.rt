@@ -3,7 +3,7 @@
 ghost use Rattle.std.specs.Prelude.{◌≡◌, Option, None, Some, IsSome, is_none, IfOk, IfErr};
 ghost use Rattle.std_alloc.specs.Box.{box_value};
 ghost use Rattle.std.specs.Option.{option_map};
-ghost use Rattle.c_table.specs.Calls.{Answers, Changes, Closes, Fills, Opens, Shares};
+ghost use Rattle.c_table.specs.Calls.{Answers, AnswersCount, Changes, Closes, CountsKeys, Fills, ListsKeys, Opens, Shares};
 ghost use Rattle.c_table.specs.Owned.{value_code, tag_of, caller_owns};
 ghost use Rattle.c_table.specs.declared.shared.Share.{Share as TheShare};
 ghost use Rattle.c_table.specs.declared.word.WordCall.TheVariants.{Get};
@@ -146,6 +146,36 @@ impl Handle {
         told(answer, word)
     }
 
+    /// As `Caller::try_count`: the number is written.
+    pub fn try_count(&mut self, alloc: Global, partition: u32, keys: &mut u64) -> Code
+        ensures { CountsKeys self.old.value self.new.value partition keys.old keys.new result }
+    {
+        let Some(mut caller) = self.take(alloc) else {
+            return Code::Blank;
+        };
+        let answer = caller.try_count(partition);
+        self.put(caller);
+        told_count(answer, keys)
+    }
+
+    /// As `Caller::try_list`.
+    pub fn try_list(
+        &mut self,
+        alloc: Global,
+        partition: u32,
+        keys: &mut [u64],
+        words: &mut [u64],
+    ) -> (Code, u64)
+        ensures { ListsKeys self.old.value self.new.value partition keys.old words.old keys.new words.new result.0 result.1 }
+    {
+        let Some(mut caller) = self.take(alloc) else {
+            return (Code::Blank, 0);
+        };
+        let answer = caller.try_list(alloc, partition, keys, words);
+        self.put(caller);
+        answer
+    }
+
     /// The caller goes, and what it has with it. The table goes with its last caller.
     pub fn close(&mut self, alloc: Global) -> Code
         ensures { Closes self.old.value self.new.value result }
@@ -167,6 +197,19 @@ fn told(answer: Result<Option<u64>, Code>, word: &mut u64) -> Code
             Code::Done
         }
         Ok(None) => Code::Absent,
+        Err(code) => code,
+    }
+}
+
+/// Writes the number of an answer, if it has one.
+fn told_count(answer: Result<u64, Code>, keys: &mut u64) -> Code
+    ensures { AnswersCount answer keys.old keys.new result }
+{
+    match answer {
+        Ok(found) => {
+            *keys = found;
+            Code::Done
+        }
         Err(code) => code,
     }
 }

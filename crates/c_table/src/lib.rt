@@ -13,6 +13,7 @@
 mod caller;
 mod code;
 mod handle;
+mod looking;
 mod making;
 mod reserve;
 mod shared;

@@ -14,7 +14,7 @@
 
 ghost use Rattle.std.specs.Prelude.{◌≡◌};
 ghost use Rattle.c_table.specs.Numbers.{number_of};
-ghost use Rattle.c_table.specs.Calls.{Changes, Closes, Opens, Shares};
+ghost use Rattle.c_table.specs.Calls.{Changes, Closes, CountsKeys, ListsKeys, Opens, Shares};
 ghost use Rattle.c_table.specs.declared.code.Code.{Code as TheCode};
 ghost use Rattle.c_table.specs.declared.word.WordCall.TheVariants as verb;
 
@@ -140,6 +140,37 @@ pub extern "C" fn lk_raw_table_delete(
     ensures { (code : TheCode) × (result ≡ number_of code) × Changes table.old.value table.new.value key verb.Delete old.old old.new code }
 {
     table.try_change(alloc, key, WordCall::Delete, old).number()
+}
+
+/// Tries to count the keys of a partition, from 0 to 127: their number is written to `keys`. One turn.
+#[unsafe(no_mangle)]
+pub extern "C" fn lk_raw_table_count(
+    alloc: Global,
+    table: &mut Handle,
+    partition: u32,
+    keys: &mut u64,
+) -> i32
+    ensures { (code : TheCode) × (result ≡ number_of code) × CountsKeys table.old.value table.new.value partition keys.old keys.new code }
+{
+    table.try_count(alloc, partition, keys).number()
+}
+
+/// Tries to list a partition, from 0 to 127: its keys and the words under them are written to the fronts of two rows, and
+/// how many there are to `count`. The costs are those of `c_table::Caller::try_list`.
+#[unsafe(no_mangle)]
+pub extern "C" fn lk_raw_table_list(
+    alloc: Global,
+    table: &mut Handle,
+    partition: u32,
+    keys: &mut [u64],
+    words: &mut [u64],
+    count: &mut u64,
+) -> i32
+    ensures { (code : TheCode) × (result ≡ number_of code) × ListsKeys table.old.value table.new.value partition keys.old words.old keys.new words.new code count.new }
+{
+    let (code, n) = table.try_list(alloc, partition, keys, words);
+    *count = n;
+    code.number()
 }
 
 /// The caller goes, and the handle is blank. The table's memory goes with its last caller.
