@@ -2,3 +2,4 @@ pub mod Scans
 pub mod Leaves
 pub mod Passes
 pub mod Opening
+pub mod Marks

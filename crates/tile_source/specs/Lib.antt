@@ -4,3 +4,4 @@ pub mod Left
 pub mod Header
 pub mod Begins
 pub mod Finding
+pub mod Quotes

@@ -6,6 +6,7 @@ ghost use Rattle.csv_rows.specs.declared.place.Place.TheVariants as place;
 ghost use Rattle.row_windows.specs.Seams.{is_line_end};
 ghost use Rattle.tile_source.specs.Scan.{IsFirst};
 
+use crate::scan::place_behind;
 use csv_rows::{Place, scanned};
 
 /// A scan of some bytes of a file, which ends at the first seam at or after a place.
@@ -47,7 +48,7 @@ impl Cut {
         // Tells that the size is a number of 64 bits. It does nothing.
         let _size = self.size;
         let sure = sure_of(self.goal.saturating_sub(self.at), bytes.len());
-        let start = scanned(&bytes[..sure], self.place);
+        let start = place_behind(&bytes[..sure], self.place);
         let found = first_seam(&bytes[sure..], start);
         let count = sure + found.at;
         self.at = self.at.saturating_add(count as u64);

@@ -17,7 +17,9 @@ mod ahead;
 mod bytes;
 mod cut;
 mod header;
+mod mask;
 mod open;
+mod scan;
 mod source;
 mod tile;
 

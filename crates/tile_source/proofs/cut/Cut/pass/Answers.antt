@@ -11,9 +11,9 @@ returns c =
     let bytes = c.args.bytes.now in
     let sure = c.sure_of-sure.result in
     let n = c.first_seam-found.result.at in
-    let start = c.scanned-start.result in
+    let start = c.place_behind-start.result in
     let is : sure ≡ min (c.args.self.now.goal - c.args.self.now.at) (length bytes) = c.sure_of-sure.ensures ∙ ap (λ k. min k (length bytes)) c.saturating_sub.ensures in
-    let first = pass-first p start bytes sure n c.scanned-start.ensures c.first_seam-found.ensures.first in
+    let first = pass-first p start bytes sure n c.place_behind-start.ensures c.first_seam-found.ensures.first in
     let size = length-drop sure bytes in
     record {
       count = sym (pass-count p (c.args.self.now.goal - c.args.self.now.at) bytes sure n is first);
@@ -26,6 +26,6 @@ returns c =
       ended = λ lt. record { line = pass-line (place_after p (take sure bytes)) bytes sure n first lt; done = lt-ltb (sure + n) (length bytes) lt };
       goes_on = λ all. record {
         on = le-ltb (sure + n) (length bytes) (omega (arith, all));
-        place = c.first_seam-found.ensures.place ∙ (ap (λ xs. place_after start (take n xs)) (take_rest bytes sure) ∙ (ap (λ q. place_after q (take n (drop sure bytes))) c.scanned-start.ensures ∙ pass-place p bytes sure n all));
+        place = c.first_seam-found.ensures.place ∙ (ap (λ xs. place_after start (take n xs)) (take_rest bytes sure) ∙ (ap (λ q. place_after q (take n (drop sure bytes))) c.place_behind-start.ensures ∙ pass-place p bytes sure n all));
       };
     }
