@@ -6,7 +6,7 @@ use Rattle.plan_spec.specs.Query.{Query}
 use Rattle.row_blocks.specs.Blocks.{Table}
 use Rattle.state_head.specs.Head.{Subject}
 use Rattle.state_head.specs.Words.{Words}
-use Rattle.state_law.specs.Law.{RowIsFirst, TextAnswers, with_header}
+use Rattle.state_law.specs.Law.{RowIsFirst, SumIsAll, TextAnswers, with_header}
 use Rattle.state_law.specs.Made.{IsMade, tile, together, whole}
 use Rattle.state_law.specs.Sources.{Work, all_records, bytes_at, whole_place}
 use Rattle.state_law.specs.Trees.{MadeIsTrue}
@@ -19,7 +19,7 @@ use Rattle.state_plan.specs.FilePlans.{AskFor, header_of}
 use Rattle.state_query.specs.Inputs.{Input}
 use Rattle.state_total.specs.Total.{IsWholeCover}
 use Rattle.state_whole.specs.Files.{StateFile}
-use Rattle.state_answers.specs.Answers.{AskForOne, OneFileIsMade, ReadingIsMade, RefusalIsFirst, TableAnswers, TablesAgree, TileReadingIsMade, work_of}
+use Rattle.state_answers.specs.Answers.{AskForOne, GroupsAreAll, OneFileIsMade, ReadingIsMade, RefusalIsFirst, TableAnswers, TablesAgree, TileReadingIsMade, work_of}
 use Rattle.state_answers.proofs.Asked.{few_items}
 
 -- what each file says is so
@@ -40,6 +40,10 @@ table_answers true_of answers bytes text i texts input of has =
       counted = has.counted;
       is = has.is;
     })
+
+pub groups_are_all : MadeIsTrue → SumIsAll → GroupsAreAll
+groups_are_all true_of sum bytes i texts cover input of whole_is counted =
+    sum (work_of i texts) i.shape i.files cover input.is_shape (all_true true_of (work_of i texts) i.files of.made) of.few (whole_by i texts cover of.many whole_is.is_cover) counted
 
 pub refusal_is_first : MadeIsTrue → RowIsFirst → RefusalIsFirst
 refusal_is_first true_of first bytes i texts row input of has =

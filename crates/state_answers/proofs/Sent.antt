@@ -1,29 +1,36 @@
 -- However bytes of files are read, they are the files that were sent.
-use Rattle.std.proofs.Common.{◌≡◌, ◌<◌, ◌∙◌, ℕ, Bool, List, [], ◌∷◌, All, ap, arith, get_or, length, subst, sym}
+use Rattle.std.proofs.Common.{◌≡◌, ◌<◌, ◌∙◌, ℕ, Bool, List, [], ◌∷◌, All, ap, arith, get_or, length, subst, sym, ◌++◌, ◌≤◌, ◌^◌, append-nil}
 use Rattle.std.specs.List.{flat_map}
-use Rattle.std.proofs.lemmas.List.Elements.{All-head}
+use Rattle.std.proofs.lemmas.Grind.{flat_map-append}
+use Rattle.std.proofs.lemmas.List.Elements.{All-append, All-cons, All-head, All-nil}
 use Rattle.par_model.specs.Named.{bound_plan}
 use Rattle.par_model.specs.Outcome.{IsAnswer}
 use Rattle.par_model.specs.Plan.{Plan}
 use Rattle.par_model.specs.declared.refusal.Refusal.{Refusal}
 use Rattle.part_law.specs.Law.{AnswersAgree}
+use Rattle.partial_agg.specs.Groups.{AreGroups}
 use Rattle.plan_spec.specs.Query.{Query}
-use Rattle.state_head.specs.Head.{Preface, Subject}
-use Rattle.state_head.specs.Words.{Keys}
+use Rattle.state_front.specs.Front.{IsFront}
+use Rattle.state_head.specs.Cover.{IsCover}
+use Rattle.state_head.specs.Head.{IsSubject, Preface, Subject, head_bytes}
+use Rattle.state_head.specs.Words.{AreKeys, Keys}
 use Rattle.state_lanes.specs.Lanes.{kinds_of, lanes_of}
+use Rattle.state_law.specs.Law.{IsOneOf}
 use Rattle.state_law.specs.Made.{IsMade}
-use Rattle.state_law.specs.Sources.{Work, all_records, rows_in}
-use Rattle.state_law.specs.Truth.{IsFirstOfAll}
+use Rattle.state_law.specs.Sources.{Work, all_records, all_rows, rows_in}
+use Rattle.state_law.specs.Told.{CombinedIsRead, all_keys}
+use Rattle.state_law.specs.Trees.{MadeIsTrue}
+use Rattle.state_law.specs.Truth.{IsFirstOfAll, IsTrueOf}
 use Rattle.state_load.specs.Loading.{AreParts, IsPart, files_bytes, stretches_of}
 use Rattle.state_once.proofs.Files.{file_some, files_are_once, preface_once}
 use Rattle.state_plan.specs.FilePlans.{AskFor, header_of}
-use Rattle.state_query.specs.Inputs.{Input, IsInput}
+use Rattle.state_query.specs.Inputs.{Input, IsInput, IsOneFile, groups_in}
 use Rattle.state_whole.specs.Adding.{IsShapeOf}
 use Rattle.state_whole.specs.Files.{IsStateFile, StateFile, file_bytes}
 use Rattle.state_whole.specs.declared.adding.Shape.{Shape}
 use Rattle.table_query.specs.Lines.{refusal_text}
-use Rattle.state_answers.specs.Answers.{IsOf, OneFileIsMade, RefusalIsFirst, TableAnswers, work_of}
-use Rattle.state_answers.specs.Sent.{AreSent, CombineIsMade, FinalizeAnswers, FinalizeRefuses, FinalizesAgree, IsJob, IsSent, Job, SentAreRead, work_by}
+use Rattle.state_answers.specs.Answers.{GroupsAreAll, IsOf, OneFileIsMade, RefusalIsFirst, TableAnswers, work_of}
+use Rattle.state_answers.specs.Sent.{AreSent, CatIsSent, CombineIsMade, CombineIsSent, FinalizeAnswers, FinalizeRefuses, FinalizesAgree, IsJob, IsSent, IsShapeBy, Job, SentAreRead, SentGroupsAreAll, work_by}
 use Rattle.state_answers.proofs.Asked.{ask_for_one}
 
 -- the first file says what all say
@@ -82,6 +89,11 @@ module _ (j : Job) (bytes : List ℕ) (i : Input) (job : IsJob j) (sent : AreSen
 pub sent_are_read : SentAreRead
 sent_are_read j bytes i job sent input = (subject_same j bytes i job sent input, query_same j bytes i job sent input, is_of j bytes i job sent input)
 
+pub sent_groups_are_all : GroupsAreAll → SentGroupsAreAll
+sent_groups_are_all groups j bytes i cover job sent input whole_is counted =
+    let are = groups bytes i j.texts cover input (is_of j bytes i job sent input) whole_is counted in
+    subst (λ (p : Plan). AreGroups p (all_rows (work_by j)) (groups_in i)) (bound_same j bytes i job sent input) are
+
 pub finalize_answers : TableAnswers → FinalizeAnswers
 finalize_answers answers j bytes text job sent table =
     let i = table.input in
@@ -121,4 +133,58 @@ combine_is_made one j bytes file job sent few is =
       made = subst (λ (w : Work). IsMade w is.f) (sym work) made;
       subject_is = is.one.subject_is ∙ subject_same j bytes i job sent is.is_input;
       is = is.is;
+    }
+
+-- ---- sent again
+
+-- a file by another shape of the same plan
+by_shape : (j : Job) (a b : Shape) (files : List StateFile) → IsShapeBy j a → IsShapeBy j b → All (IsSent j a) files → All (IsSent j b) files
+by_shape j a b files is is' all = λ k d lt.
+    let f = get_or files k d in
+    let one = all k d lt in
+    let columns = subst (λ (n : ℕ). IsStateFile n a.kinds.now f) (is.columns ∙ sym is'.columns) one.is_file in
+    record { made = one.made; is_file = subst (λ (ks : List Bool). IsStateFile b.columns ks f) (is.kinds ∙ sym is'.kinds) columns; subject_is = one.subject_is }
+
+pub cat_is_sent : CatIsSent
+cat_is_sent j bytes others a b = record {
+  shape = a.shape;
+  is_shape = a.is_shape;
+  files = a.files ++ b.files;
+  each = All-append (IsSent j a.shape) a.files b.files a.each (by_shape j b.shape a.shape b.files b.is_shape a.is_shape b.each);
+  are = ap (λ (l : List ℕ). l ++ others) a.are ∙ ap (λ (l : List ℕ). files_bytes a.shape a.files ++ l) (b.are ∙ ap (λ (ks : List Bool). flat_map (file_bytes ks) b.files) (b.is_shape.kinds ∙ sym a.is_shape.kinds))
+      ∙ sym (flat_map-append (file_bytes a.shape.kinds.now) a.files b.files);
+}
+
+-- the front of the one file
+front_of : (i : Input) (bytes : List ℕ) (f : StateFile) → IsInput bytes i → IsOneFile i f → i.keys ≡ all_keys → length (head_bytes f.preface) ≤ 2 ^ 28 → IsFront f.preface
+front_of i bytes f input one keys short =
+    let first = input.are 0 f input.some in
+    let subject = subst IsSubject (first.is_alike.subject_is ∙ sym one.subject_is) first.is_file.is_front.is_head.is_subject in
+    record {
+      is_head = record {
+        is_subject = subject;
+        is_cover = subst (λ (s : Subject). IsCover s.sources f.preface.cover) (sym one.subject_is) one.is_cover;
+        are_keys = subst AreKeys (sym (one.keys_are ∙ keys)) (record { low = omega arith; high = omega arith });
+      };
+      short = short;
+    }
+
+pub combine_is_sent : MadeIsTrue → CombinedIsRead → OneFileIsMade → CombineIsSent
+combine_is_sent true_of read once j bytes file job sent few one keys short =
+    let i = one.input in
+    let work = work_same j bytes i job sent one.is_input in
+    let shape = subst (λ (p : Plan). IsShapeOf p i.shape) (bound_same j bytes i job sent one.is_input) one.is_input.is_shape in
+    let files = made_of j bytes i job sent one.is_input in
+    let is_one : IsOneOf (work_of i j.texts) i.files one.f = record { shape = i.shape; is_shape = one.is_input.is_shape; subject = i.subject; keys = i.keys; is = one.one } in
+    let all : All (IsTrueOf (work_of i j.texts)) i.files = λ k d lt. true_of (work_of i j.texts) (get_or i.files k d) (files k d lt) in
+    let rows = ap (λ (w : Work). length (rows_in w (stretches_of sent.files))) work in
+    let same = ap (λ (fs : List StateFile). length (rows_in (work_of i j.texts) (stretches_of fs))) (files_same j bytes i job sent one.is_input) in
+    let made = once bytes i j.texts one.f one.is_input files (omega (arith, few, rows, same)) one.one in
+    let is_file = read (work_of i j.texts) i.files one.f is_one all (omega (arith, few, rows, same)) keys (front_of i bytes one.f one.is_input one.one keys short) in
+    record {
+      shape = i.shape;
+      is_shape = shape;
+      files = one.f ∷ [];
+      each = All-cons (IsSent j i.shape) one.f [] (record { made = subst (λ (w : Work). IsMade w one.f) (sym work) made; is_file = is_file; subject_is = one.one.subject_is ∙ subject_same j bytes i job sent one.is_input }) (All-nil (IsSent j i.shape));
+      are = one.is ∙ sym (append-nil (file_bytes i.shape.kinds.now one.f));
     }

@@ -3,16 +3,19 @@ use Rattle.std.specs.Prelude.{◌≡◌, ◌<◌, ◌^◌, ◌∷◌, ℕ, List,
 use Rattle.csv_rows.specs.Cuts.{IsCut}
 use Rattle.csv_rows.specs.Records.{records_of}
 use Rattle.par_model.specs.Outcome.{IsAnswer}
+use Rattle.partial_agg.specs.Groups.{AreGroups}
 use Rattle.plan_spec.specs.Query.{Query}
 use Rattle.state_head.specs.Words.{Words}
 use Rattle.state_head.specs.declared.cover.Place.{Place}
+use Rattle.state_head.specs.declared.cover.Stretch.{Stretch}
 use Rattle.state_law.specs.Law.{with_header}
 use Rattle.state_law.specs.Made.{IsMade}
 use Rattle.state_law.specs.Sources.{IsTile, Work, all_records, all_rows, bytes_at, rows_in, whole_place}
 use Rattle.state_law.specs.Truth.{IsFirstOfAll, IsReadOf}
 use Rattle.state_load.specs.Loading.{stretches_of}
 use Rattle.state_plan.specs.FilePlans.{AskFor, header_of}
-use Rattle.state_query.specs.Inputs.{HasRefusedRow, HasText, Input, IsInput, IsOneFile}
+use Rattle.state_query.specs.Inputs.{HasRefusedRow, HasText, Input, IsInput, IsOneFile, IsWhole, bound_of, groups_in}
+use Rattle.state_total.specs.Total.{IsCounted}
 use Rattle.state_total.specs.declared.total.FirstRefused.{FirstRefused}
 use Rattle.state_whole.specs.Files.{StateFile}
 
@@ -25,6 +28,10 @@ pub record IsOf (texts : List (List ℕ)) (i : Input) : Type 0 where
   pub many : length texts ≡ i.subject.sources
   pub few : length (all_rows (work_of i texts)) < 2 ^ 64
   pub made : All (IsMade (work_of i texts)) i.files
+
+-- if they have all bytes of all sources, each once, and no row is refused, their groups are those of all rows of all sources
+abbrev pub GroupsAreAll : Type 0
+GroupsAreAll = (bytes : List ℕ) (i : Input) (texts : List (List ℕ)) (cover : List Stretch) → IsInput bytes i → IsOf texts i → IsWhole i cover → All IsCounted cover → AreGroups (bound_of i) (all_rows (work_of i texts)) (groups_in i)
 
 -- the text that they come to is that of one pass over all rows of all sources
 abbrev pub TableAnswers : Type 0

@@ -1,16 +1,20 @@
 -- Bytes of files that came about of some sources, as an engine brings them, and what the forms come to over them.
-use Rattle.std.specs.Prelude.{◌≡◌, ◌<◌, ◌^◌, ℕ, List, All, length}
+use Rattle.std.specs.Prelude.{◌≡◌, ◌<◌, ◌≤◌, ◌^◌, ◌++◌, ℕ, List, All, length}
 use Rattle.par_model.specs.Named.{bound_plan}
 use Rattle.par_model.specs.Outcome.{IsAnswer}
+use Rattle.partial_agg.specs.Groups.{AreGroups}
 use Rattle.plan_spec.specs.Query.{Query}
-use Rattle.state_head.specs.Head.{Subject}
+use Rattle.state_head.specs.Head.{Subject, head_bytes}
+use Rattle.state_head.specs.declared.cover.Stretch.{Stretch}
 use Rattle.state_law.specs.Made.{IsMade}
 use Rattle.state_law.specs.Sources.{Work, all_records, all_rows, rows_in}
+use Rattle.state_law.specs.Told.{all_keys}
 use Rattle.state_law.specs.Truth.{IsFirstOfAll}
 use Rattle.state_load.specs.Loading.{files_bytes, stretches_of}
 use Rattle.state_plan.specs.FilePlans.{AskFor, header_of}
-use Rattle.state_query.specs.Inputs.{AreOneFile, Input, IsInput, IsTableOf}
+use Rattle.state_query.specs.Inputs.{AreOneFile, Input, IsInput, IsTableOf, IsWhole, groups_in}
 use Rattle.state_query.specs.Whys.{RefuseRow}
+use Rattle.state_total.specs.Total.{IsCounted}
 use Rattle.state_total.specs.declared.total.FirstRefused.{FirstRefused}
 use Rattle.state_whole.specs.Adding.{IsShapeOf}
 use Rattle.state_whole.specs.Files.{IsStateFile, StateFile, file_bytes}
@@ -55,6 +59,11 @@ pub record AreSent (j : Job) (bytes : List ℕ) : Type 0 where
 abbrev pub SentAreRead : Type 0
 SentAreRead = (j : Job) (bytes : List ℕ) (i : Input) → IsJob j → AreSent j bytes → IsInput bytes i → (i.subject ≡ j.subject) × (i.query ≡ j.query) × IsOf j.texts i
 
+-- so its groups, if it has all bytes of all sources, each once, and no row is refused, are those of all rows of all sources
+abbrev pub SentGroupsAreAll : Type 0
+SentGroupsAreAll = (j : Job) (bytes : List ℕ) (i : Input) (cover : List Stretch) → IsJob j → AreSent j bytes → IsInput bytes i → IsWhole i cover → All IsCounted cover
+    → AreGroups (bound_plan (header_of j.subject) j.query.plan) (all_rows (work_by j)) (groups_in i)
+
 -- the table that they come to is that of one pass over all rows of all sources
 abbrev pub FinalizeAnswers : Type 0
 FinalizeAnswers = (j : Job) (bytes text : List ℕ) → IsJob j → AreSent j bytes → IsTableOf bytes text → IsAnswer j.query.plan (all_records (work_by j)) text
@@ -87,3 +96,13 @@ pub record IsMadeFile (j : Job) (bytes : List ℕ) : Type 0 where
 -- the one file that they are put together to came about of the same sources
 abbrev pub CombineIsMade : Type 0
 CombineIsMade = (j : Job) (bytes file : List ℕ) → IsJob j → (sent : AreSent j bytes) → length (rows_in (work_by j) (stretches_of sent.files)) < 2 ^ 64 → AreOneFile bytes file → IsMadeFile j file
+
+-- bytes of such files, and others after them, as `cat` puts them together
+abbrev pub CatIsSent : Type 0
+CatIsSent = (j : Job) (bytes others : List ℕ) → AreSent j bytes → AreSent j others → AreSent j (bytes ++ others)
+
+-- the one file may be sent again, if there are at most 2^50 rows and its head is no longer than a head may be; so files may be put together
+-- in any tree
+abbrev pub CombineIsSent : Type 0
+CombineIsSent = (j : Job) (bytes file : List ℕ) → IsJob j → (sent : AreSent j bytes) → length (rows_in (work_by j) (stretches_of sent.files)) ≤ 2 ^ 50 → (one : AreOneFile bytes file) → one.input.keys ≡ all_keys
+    → length (head_bytes one.f.preface) ≤ 2 ^ 28 → AreSent j file

@@ -6,11 +6,11 @@
 
 #![tactic(auto)]
 
-ghost use Rattle.state_answers.specs.Answers.{AskForOne, OneFileIsMade, ReadingIsMade, RefusalIsFirst, TableAnswers, TablesAgree, TileReadingIsMade};
-ghost use Rattle.state_answers.specs.Sent.{CombineIsMade, FinalizeAnswers, FinalizeRefuses, FinalizesAgree, SentAreRead};
+ghost use Rattle.state_answers.specs.Answers.{AskForOne, GroupsAreAll, OneFileIsMade, ReadingIsMade, RefusalIsFirst, TableAnswers, TablesAgree, TileReadingIsMade};
+ghost use Rattle.state_answers.specs.Sent.{CatIsSent, CombineIsMade, CombineIsSent, FinalizeAnswers, FinalizeRefuses, FinalizesAgree, SentAreRead, SentGroupsAreAll};
 
 use part_law::answers_agree;
-use state_law::{made_is_true, row_is_first, text_answers};
+use state_law::{combined_is_read, made_is_true, row_is_first, sum_is_all, text_answers};
 
 /// The words of a file ask for one query. A law: it does nothing when it runs.
 pub fn ask_for_one()
@@ -35,6 +35,15 @@ pub fn tile_reading_is_made()
 pub fn one_file_is_made()
     ensures { OneFileIsMade }
 {}
+
+/// The groups of the files of an input that has all bytes of all sources, each once, are those of all rows. A law: it does nothing
+/// when it runs.
+pub fn groups_are_all()
+    ensures { GroupsAreAll }
+{
+    made_is_true();
+    sum_is_all();
+}
 
 /// The text that the files of an input come to is that of one pass over all rows of all sources. A law: it does nothing when it
 /// runs.
@@ -69,6 +78,13 @@ pub fn sent_are_read()
     ensures { SentAreRead }
 {}
 
+/// So are those of bytes of files that came about of some sources. A law: it does nothing when it runs.
+pub fn sent_groups_are_all()
+    ensures { SentGroupsAreAll }
+{
+    groups_are_all();
+}
+
 /// The table that `finalize` makes of bytes of files that came about of some sources is that of one pass over all their rows. A law:
 /// it does nothing when it runs.
 pub fn finalize_answers()
@@ -96,5 +112,20 @@ pub fn finalize_refuses()
 pub fn combine_is_made()
     ensures { CombineIsMade }
 {
+    one_file_is_made();
+}
+
+/// Bytes of files that came about of some sources, and others after them, are such bytes. A law: it does nothing when it runs.
+pub fn cat_is_sent()
+    ensures { CatIsSent }
+{}
+
+/// The file that `combine` makes of them may be sent again, so they may be put together in any tree. A law: it does nothing when
+/// it runs.
+pub fn combine_is_sent()
+    ensures { CombineIsSent }
+{
+    made_is_true();
+    combined_is_read();
     one_file_is_made();
 }

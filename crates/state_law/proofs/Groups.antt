@@ -75,7 +75,7 @@ module _ (plan : Plan) (shape : Shape) (of : IsShapeOf plan shape) (told : RowsA
       let by_items = subst (λ (is : List Item). item_slots lanes (lane_slots lanes is all) is ≡ all) (sym of.items) base in
       subst (λ (ls : List Lane). item_slots ls (lane_slots ls shape.items.now all) shape.items.now ≡ all) (sym of.lanes) by_items
 
-  group_back : (g : MapGroup) (rows : Table) → g.state ≡ state_of_rows plan rows → group_from (tuple_of shape g) ≡ g
+  pub group_back : (g : MapGroup) (rows : Table) → g.state ≡ state_of_rows plan rows → group_from (tuple_of shape g) ≡ g
   group_back g rows is =
       let slots = subst (λ (s : AggState). item_slots shape.lanes.now (lane_slots shape.lanes.now shape.items.now s.slots) shape.items.now ≡ s.slots) (sym is) (slots_back rows) in
       let made : List SlotState → MapGroup = λ ss. record { key = g.key; state = record { rows = g.state.rows; slots = ss } } in
@@ -106,51 +106,61 @@ module _ (plan : Plan) (shape : Shape) (of : IsShapeOf plan shape) (told : RowsA
 
   -- ---- files
 
+  abbrev pub TuplesOf : Table → StateFile → Type 0
+  TuplesOf rows f = AreRowTuples plan rows (tuples_in f)
+
+  -- the maps of some files, and their tuples as lists of groups
+  record Listings (shares : List Table) (files : List StateFile) : Type 0 where
+    pub maps : List GroupsByKey
+    pub lists : List (List MapGroup)
+    pub each : AllZip (AreGroups plan) shares maps
+    pub listings : AreListings maps lists
+    pub sum : (m : GroupsByKey) → sum_of shape m files ≡ with_part one_part 0 m lists
+
+  all_listings : (shares : List Table) (files : List StateFile) → AllZip TuplesOf shares files → Listings shares files
+  all_listings [] [] all = record { maps = []; lists = []; each = tt; listings = tt; sum = λ m. refl }
+  all_listings [] (f ∷ files) all = absurd all
+  all_listings (rows ∷ shares) [] all = absurd all
+  all_listings (rows ∷ shares) (f ∷ files) all =
+      let t = all.0 in
+      let rest = all_listings shares files all.1 in
+      let mine = map_list group_from (tuples_in f) in
+      record {
+        maps = t.groups ∷ rest.maps;
+        lists = mine ∷ rest.lists;
+        each = (t.are_groups, rest.each);
+        listings = (listing rows (tuples_in f) t, rest.listings);
+        sum = λ m. rest.sum (sum_with shape m (tuples_in f)) ∙ ap (λ (n : GroupsByKey). with_part one_part 0 n rest.lists) (sum_listed m (tuples_in f));
+      }
+
+  -- the sum of the tuples of files is the map of the rows of which they are, in any order
+  pub sum_of_shares : (width : ℕ) (shares : List Table) (files : List StateFile) (rows : Table) → AllZip TuplesOf shares files → IsPermutation (together shares) rows → All (IsAccepted plan width) rows → length rows < 2 ^ 64
+      → AreGroups plan rows (sum_of shape fin.empty files)
+  sum_of_shares width shares files rows all same accepted few =
+      let l = all_listings shares files all in
+      let shared : AreShared plan width rows l.maps = record { shares = shares; each = l.each; accepted = accepted; same = same } in
+      let joined = parts_join plan width one_part 0 rows l.maps l.lists shared l.listings few in
+      let by_rows = subst (λ (t : Table). AreGroups plan t (with_part one_part 0 fin.empty l.lists)) (filter_all (List (List ℕ)) rows) joined in
+      subst (AreGroups plan rows) (sym (l.sum fin.empty)) by_rows
+
   module _ (w : Work) where
     abbrev pub HaveTuples : StateFile → Type 0
     HaveTuples f = AreRowTuples plan (rows_in w f.preface.cover) (tuples_in f)
-
-    -- the maps of some files, and their tuples as lists of groups
-    record Listings (files : List StateFile) : Type 0 where
-      pub maps : List GroupsByKey
-      pub lists : List (List MapGroup)
-      pub each : AllZip (AreGroups plan) (map_list (λ (f : StateFile). rows_in w f.preface.cover) files) maps
-      pub listings : AreListings maps lists
-      pub sum : (m : GroupsByKey) → sum_of shape m files ≡ with_part one_part 0 m lists
-
-    all_listings : (files : List StateFile) → All HaveTuples files → Listings files
-    all_listings [] all = record { maps = []; lists = []; each = tt; listings = tt; sum = λ m. refl }
-    all_listings (f ∷ files) all =
-        let t = All-head HaveTuples f files all in
-        let rest = all_listings files (All-tail HaveTuples f files all) in
-        let mine = map_list group_from (tuples_in f) in
-        record {
-          maps = t.groups ∷ rest.maps;
-          lists = mine ∷ rest.lists;
-          each = (t.are_groups, rest.each);
-          listings = (listing (rows_in w f.preface.cover) (tuples_in f) t, rest.listings);
-          sum = λ m. rest.sum (sum_with shape m (tuples_in f)) ∙ ap (λ (n : GroupsByKey). with_part one_part 0 n rest.lists) (sum_listed m (tuples_in f));
-        }
 
     rows_together : (files : List StateFile) → together (map_list (λ (f : StateFile). rows_in w f.preface.cover) files) ≡ rows_in w (stretches_of files)
     rows_together [] = refl
     rows_together (f ∷ files) =
         ap (λ (l : Table). rows_in w f.preface.cover ++ l) (rows_together files) ∙ sym (flat_map-append (λ (s : Stretch). rows_at w s.place) f.preface.cover (stretches_of files))
 
+    each_tuples : (files : List StateFile) → All HaveTuples files → AllZip TuplesOf (map_list (λ (f : StateFile). rows_in w f.preface.cover) files) files
+    each_tuples [] all = tt
+    each_tuples (f ∷ files) all = (All-head HaveTuples f files all, each_tuples files (All-tail HaveTuples f files all))
+
     -- the sum of the tuples of files is the map of all their rows, in any order
     pub sum_is_groups : (width : ℕ) (files : List StateFile) (rows : Table) → All HaveTuples files → IsPermutation (rows_in w (stretches_of files)) rows → All (IsAccepted plan width) rows → length rows < 2 ^ 64
         → AreGroups plan rows (sum_of shape fin.empty files)
     sum_is_groups width files rows all same accepted few =
-        let l = all_listings files all in
-        let shared : AreShared plan width rows l.maps = record {
-          shares = map_list (λ (f : StateFile). rows_in w f.preface.cover) files;
-          each = l.each;
-          accepted = accepted;
-          same = subst (λ (t : Table). IsPermutation t rows) (sym (rows_together files)) same;
-        } in
-        let joined = parts_join plan width one_part 0 rows l.maps l.lists shared l.listings few in
-        let by_rows = subst (λ (t : Table). AreGroups plan t (with_part one_part 0 fin.empty l.lists)) (filter_all (List (List ℕ)) rows) joined in
-        subst (AreGroups plan rows) (sym (l.sum fin.empty)) by_rows
+        sum_of_shares width (map_list (λ (f : StateFile). rows_in w f.preface.cover) files) files rows (each_tuples files all) (subst (λ (t : Table). IsPermutation t rows) (sym (rows_together files)) same) accepted few
 
 -- ---- rows that are counted are accepted
 

@@ -1,14 +1,14 @@
 -- What files come to.
 use Rattle.std.proofs.Common.{◌≡◌, ◌++◌, ◌∙◌, ◌⊎◌, inl, inr, ℕ, zero, suc, List, [], ◌∷◌, All, ap, append-nil, arith, drop, length, refl, subst, sym}
 use Rattle.std.specs.FinMap as fin
+use Rattle.std.specs.List.Sorted.{IsPermutation}
 use Rattle.std.proofs.lemmas.List.{length-map}
 use Rattle.std.proofs.lemmas.List.Elements.{All-append, All-cons, All-head, All-nil, All-tail}
 use Rattle.std.proofs.lemmas.List.Sorted.{length_permutation}
 use Rattle.csv_rows.specs.Records.{records_of}
 use Rattle.par_model.specs.Named.{bound_item}
-use Rattle.par_model.specs.Outcome.{IsAnswer}
-use Rattle.partial_agg.specs.Groups.{AreGroups}
 use Rattle.partial_agg.specs.Listed.{listed}
+use Rattle.partial_agg.specs.Rows.{IsAccepted}
 use Rattle.part_law.proofs.OneText.{answers_agree}
 use Rattle.result_text.proofs.Answering.{answers}
 use Rattle.row_blocks.specs.Blocks.{Table}
@@ -22,9 +22,9 @@ use Rattle.state_head.specs.declared.cover.Rows.TheVariants.{Counted, Refused}
 use Rattle.state_head.specs.declared.cover.Stretch.{Stretch}
 use Rattle.state_lanes.specs.Rows.{LanesComeBack, RowsAreTold}
 use Rattle.state_load.specs.Loading.{stretches_of, sum_of}
-use Rattle.state_total.specs.Total.{AreCounted, IsCounted}
+use Rattle.state_total.specs.Total.{AreCounted, IsCounted, IsWholeCover}
 use Rattle.state_whole.specs.Files.{StateFile, tuples_in}
-use Rattle.state_law.specs.Law.{CombinedIsTrue, RowIsFirst, SourcesAreHeaded, TextAnswers, TextsAgree, TileIsTrue, WholeIsTrue, with_header}
+use Rattle.state_law.specs.Law.{CombinedIsTrue, RowIsFirst, SourcesAreHeaded, SumIsAll, TextAnswers, TextsAgree, TileIsTrue, WholeIsTrue, with_header}
 use Rattle.state_law.specs.Sources.{IsTile, Work, all_rows, bytes_at, plan_in, rows_at, rows_in, text_of, whole_place, width_in, without_header}
 use Rattle.state_law.specs.Truth.{AreRowTuples, AreTold, AreTuplesBeside, IsReadOf, IsTrue, IsTrueOf}
 use Rattle.state_law.proofs.Groups.{counted_accepted, short_keys, sum_is_groups}
@@ -127,19 +127,26 @@ combined_is_true told back w files f all few one =
       refused = one.is.refused;
     }
 
-pub text_answers : RowsAreTold → LanesComeBack → TextAnswers
-text_answers told back w files text all few items come =
-    let stretches = stretches_of files in
+-- the rows of a cover that has all bytes are accepted, and are all rows
+all_accepted_rows : (w : Work) (files : List StateFile) (cover : List Stretch) → All (IsTrueOf w) files → IsWholeCover (length w.texts) (stretches_of files) cover → All IsCounted cover → All (IsAccepted (plan_in w) (width_in w)) (all_rows w)
+all_accepted_rows w files cover all whole counted =
+    let covered = are_covered w (stretches_of files) cover whole.join (stretches_true w files all) in
+    let rows = whole_is_all w cover whole.whole.0 whole.whole.1 covered.each in
+    subst (All (IsAccepted (plan_in w) (width_in w))) rows (counted_accepted w cover covered.each counted)
+
+pub sum_is_all : RowsAreTold → LanesComeBack → SumIsAll
+sum_is_all told back w shape files cover of all few whole counted =
+    let covered = are_covered w (stretches_of files) cover whole.join (stretches_true w files all) in
+    let rows = whole_is_all w cover whole.whole.0 whole.whole.1 covered.each in
+    let same = subst (IsPermutation (rows_in w (stretches_of files))) rows covered.rows in
+    sum_is_groups (plan_in w) shape of told back w (width_in w) files (all_rows w) (all_tuples w files all (covered.counted counted)) same (all_accepted_rows w files cover all whole counted) few
+
+pub text_answers : SumIsAll → TextAnswers
+text_answers sum_of_all w files text all few items come =
     let sum = sum_of come.shape fin.empty files in
-    let covered = are_covered w stretches come.cover come.is_whole.join (stretches_true w files all) in
-    let rows : rows_in w come.cover ≡ all_rows w = whole_is_all w come.cover come.is_whole.whole.0 come.is_whole.whole.1 covered.each in
-    let accepted = counted_accepted w come.cover covered.each come.counted in
-    let same = ap (λ (l : Table). length l) rows in
-    let groups : AreGroups (plan_in w) (rows_in w come.cover) sum =
-    sum_is_groups (plan_in w) come.shape come.is_shape told back w (width_in w) files (rows_in w come.cover) (all_tuples w files all (covered.counted come.counted)) covered.rows accepted (omega (arith, same, few)) in
-    let answer = answers w.names (plan_in w) (listed sum) text w.header (rows_in w come.cover) sum come.is (short_keys (plan_in w) (width_in w) (rows_in w come.cover) sum accepted groups)
-    (omega (arith, length-map w.names.items (bound_item w.header), items)) refl groups refl in
-    subst (λ (l : Table). IsAnswer w.names (w.header ∷ l) text) rows answer
+    let groups = sum_of_all w come.shape files come.cover come.is_shape all few come.is_whole come.counted in
+    let accepted = all_accepted_rows w files come.cover all come.is_whole come.counted in
+    answers w.names (plan_in w) (listed sum) text w.header (all_rows w) sum come.is (short_keys (plan_in w) (width_in w) (all_rows w) sum accepted groups) (omega (arith, length-map w.names.items (bound_item w.header), items)) refl groups refl
 
 pub sources_are_headed : SourcesAreHeaded
 sources_are_headed w files cover all whole k lt =

@@ -4,6 +4,8 @@ mod FirstRows
 mod Groups
 mod Joins
 mod Laws
+mod Read
 mod Tiles
+mod Told
 mod Trees
 mod Wholes

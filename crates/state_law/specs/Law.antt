@@ -4,6 +4,7 @@ use Rattle.std.specs.FinMap as map
 use Rattle.csv_rows.specs.Cuts.{IsCut}
 use Rattle.csv_rows.specs.Records.{records_of}
 use Rattle.par_model.specs.Outcome.{IsAnswer}
+use Rattle.partial_agg.specs.Groups.{AreGroups}
 use Rattle.partial_agg.specs.Listed.{listed}
 use Rattle.result_text.specs.Text.{IsTextOf}
 use Rattle.state_combine.specs.Combined.{IsCombined}
@@ -63,6 +64,11 @@ pub record ComeToText (w : Work) (files : List StateFile) (text : List ℕ) : Ty
   pub is_whole : IsWholeCover (length w.texts) (stretches_of files) cover
   pub counted : All IsCounted cover
   pub is : IsTextOf w.names (plan_in w) (listed (sum_of shape map.empty files)) text
+
+-- files that have all bytes of all sources, each once, none of whose rows is refused, have the groups of all rows
+abbrev pub SumIsAll : Type 0
+SumIsAll = (w : Work) (shape : Shape) (files : List StateFile) (cover : List Stretch) → IsShapeOf (plan_in w) shape → All (IsTrueOf w) files → length (all_rows w) < 2 ^ 64 → IsWholeCover (length w.texts) (stretches_of files) cover → All IsCounted cover
+    → AreGroups (plan_in w) (all_rows w) (sum_of shape map.empty files)
 
 -- it is the text of one pass over all rows of all sources
 abbrev pub TextAnswers : Type 0

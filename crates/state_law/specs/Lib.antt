@@ -3,3 +3,4 @@ pub mod Truth
 pub mod Law
 pub mod Made
 pub mod Trees
+pub mod Told

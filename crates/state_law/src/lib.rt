@@ -8,7 +8,8 @@
 
 #![tactic(auto)]
 
-ghost use Rattle.state_law.specs.Law.{BlankIsTrue, CombinedIsTrue, RowIsFirst, SourcesAreHeaded, TextAnswers, TextsAgree, TileIsTrue, WholeIsTrue};
+ghost use Rattle.state_law.specs.Law.{BlankIsTrue, CombinedIsTrue, RowIsFirst, SourcesAreHeaded, SumIsAll, TextAnswers, TextsAgree, TileIsTrue, WholeIsTrue};
+ghost use Rattle.state_law.specs.Told.{CombinedIsRead, GroupsAreTold, SumIsTold};
 ghost use Rattle.state_law.specs.Trees.{MadeIsTrue};
 
 use state_lanes::{lanes_come_back, rows_are_told};
@@ -49,12 +50,19 @@ pub fn sources_are_headed()
     ensures { SourcesAreHeaded }
 {}
 
+/// Files that have all bytes of all sources, each once, have the groups of all rows. A law: it does nothing when it runs.
+pub fn sum_is_all()
+    ensures { SumIsAll }
+{
+    rows_are_told();
+    lanes_come_back();
+}
+
 /// The text that files come to answers the query over all rows of all sources. A law: it does nothing when it runs.
 pub fn text_answers()
     ensures { TextAnswers }
 {
-    rows_are_told();
-    lanes_come_back();
+    sum_is_all();
 }
 
 /// Files of the same sources that were made and put together in another way come to the same bytes. A law: it does nothing when
@@ -69,3 +77,28 @@ pub fn texts_agree()
 pub fn row_is_first()
     ensures { RowIsFirst }
 {}
+
+/// The groups of at most 2^50 rows, of which none is refused, are such as a reader of files takes. A law: it does nothing when it
+/// runs.
+pub fn groups_are_told()
+    ensures { GroupsAreTold }
+{
+    rows_are_told();
+    lanes_come_back();
+}
+
+/// So are those of files that say what is so, added up. A law: it does nothing when it runs.
+pub fn sum_is_told()
+    ensures { SumIsTold }
+{
+    rows_are_told();
+    lanes_come_back();
+}
+
+/// A reader takes the one file that such files are put together to, if its head is no longer than a head may be. A law: it does
+/// nothing when it runs.
+pub fn combined_is_read()
+    ensures { CombinedIsRead }
+{
+    sum_is_told();
+}

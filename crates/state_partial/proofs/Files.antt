@@ -1,5 +1,6 @@
 -- The file of what was read.
-use Rattle.std.proofs.Common.{◌≡◌, ◌∷◌, ◌∙◌, ℕ, List, [], All, Option, None, Some, IfSome, ap, arith, length, refl, subst, sym}
+use Rattle.std.proofs.Common.{inl, ◌≡◌, ◌<◌, ◌≤◌, ◌^◌, ◌||◌, ◌∷◌, ◌∙◌, ℕ, Bool, true, false, List, [], All, Option, None, Some, IfSome, ap, arith, length, refl, subst, sym}
+use Rattle.std.specs.Bool.{OnTrue}
 use Rattle.std.specs.FinMap as map
 use Rattle.std.specs.Prelude.{map as map_list}
 use Rattle.std.proofs.lemmas.List.Sorted.{length_permutation}
@@ -14,22 +15,33 @@ use Rattle.plan_spec.specs.Query.{Query}
 use Rattle.result_text.specs.Printable.{IsKeyOf}
 use Rattle.result_text.proofs.Uses.{printable-listed}
 use Rattle.state_blocks.specs.Blocks.{Group}
-use Rattle.state_head.specs.Head.{Preface, Subject}
+use Rattle.state_front.specs.Front.{IsFront}
+use Rattle.state_head.specs.Cover.{IsCover}
+use Rattle.state_head.specs.Head.{Preface, Subject, head_bytes}
+use Rattle.state_head.specs.Words.{AreWords, Keys}
+use Rattle.state_head.specs.declared.cover.Place.{Place}
 use Rattle.state_head.specs.declared.cover.Rows.{Rows}
 use Rattle.state_head.specs.declared.cover.Rows.TheVariants.{Counted, Refused}
 use Rattle.state_head.specs.declared.cover.Stretch.{Stretch}
+use Rattle.state_order.specs.Order.{IsIn}
 use Rattle.state_plan.specs.FilePlans.{AskFor, IsPlanOf, header_of}
 use Rattle.state_plan.specs.declared.file_plan.FilePlan.{FilePlan}
-use Rattle.state_save.specs.Saving.{AreTuplesOf, IsFileOf}
+use Rattle.state_save.specs.Saving.{AreTuplesOf, IsFileOf, IsTold, SavedIsRead}
 use Rattle.state_whole.specs.Adding.{IsShapeOf}
-use Rattle.state_whole.specs.Files.{StateFile, file_bytes, tuples_in}
+use Rattle.state_whole.specs.Files.{IsStateFile, StateFile, file_bytes, tuples_in}
+use Rattle.state_whole.specs.Sums.{has_refused, is_refused}
 use Rattle.state_whole.specs.declared.adding.Shape.{Shape}
 use Rattle.state_partial.specs.Parts.{IsPartText}
 use Rattle.state_partial.specs.Reads.{AreRowsOf, IsPartRead}
 use Rattle.state_law.specs.Sources.{whole_place}
+use Rattle.state_law.specs.Told.{GroupsAreTold}
 use Rattle.state_law.specs.Truth.{IsReadOf}
 use Rattle.state_partial.specs.Words.{Asked, asked_in}
 use Rattle.state_partial.specs.declared.reading.Part.{Part}
+
+-- what holds if a test succeeds
+pub on_true : {P : Type 0} (b : Bool) → b ≡ true → OnTrue b P → P
+on_true {P} b e holds = subst (λ (b : Bool). OnTrue b P) e holds
 
 nil_of_length : {A : Type 0} (xs : List A) → length xs ≡ 0 → xs ≡ []
 nil_of_length [] e = refl
@@ -88,6 +100,50 @@ module _ (query : Query) (header : List (List ℕ)) (bytes : List ℕ) (shape : 
     tuples = no_tuples shape (listed m) (tuples_in f) (none_listed m are.none) tuples;
   }
 
+-- ---- that a reader takes it
+
+module _ (query : Query) (header : List (List ℕ)) (shape : Shape) (of_shape : IsShapeOf (bound_plan header query.plan) shape) (law : GroupsAreTold) where
+  told_by : (rows : Rows) (from : Option (List ℕ)) (m : GroupsByKey) → AreRowsOf query header from rows m → All (IsTold shape) (listed m)
+  told_by (Counted many) from m are = law (bound_plan header query.plan) (length header) shape are.rows m of_shape are.accepted are.few are.are
+  told_by (Refused why) from m are = subst (All (IsTold shape)) (sym (none_listed m are.none)) (λ k d low. absurd (omega (arith, low)))
+
+-- if a row is refused there are no groups
+no_groups : (query : Query) (header : List (List ℕ)) (from : Option (List ℕ)) (rows : Rows) (m : GroupsByKey) → AreRowsOf query header from rows m → 0 < length (listed m) → is_refused rows ≡ true → ⊥
+no_groups query header from (Counted many) m are some e = cc e
+no_groups query header from (Refused why) m are some e = omega (arith, some, ap length (none_listed m are.none))
+
+-- no bounds have every key
+all_in : (columns : ℕ) (keys : Keys) (groups : List MapGroup) → keys ≡ record { low = []; high = [] } → All (λ (g : MapGroup). IsIn columns keys g.key) groups
+all_in columns keys groups e = λ k d low. record { from = inl (ap (λ (ks : Keys). ks.low) e); below = inl (ap (λ (ks : Keys). ks.high) e) }
+
+or_false : (b : Bool) → (b || false) ≡ true → b ≡ true
+or_false true e = refl
+or_false false e = e
+
+is_read : (query : Query) (header : List (List ℕ)) (from : Option (List ℕ)) (shape : Shape) (pre : Preface) (place : Place) (rows : Rows) (m : GroupsByKey) (groups : List MapGroup) (f : StateFile) → GroupsAreTold → SavedIsRead
+    → IsShapeOf (bound_plan header query.plan) shape → AreRowsOf query header from rows m → groups ≡ listed m → pre.cover ≡ record { place = place; rows = rows } ∷ [] → pre.keys ≡ record { low = []; high = [] }
+    → IsFront pre → IsFileOf shape pre groups f → IsStateFile shape.columns shape.kinds.now f
+is_read query header from shape pre place rows m groups f law saved of_shape are same cover keys front is_file =
+    saved shape pre groups f (record {
+      is_front = front;
+      told = subst (All (IsTold shape)) (sym same) (told_by query header shape of_shape law rows from m are);
+      within = all_in shape.columns pre.keys groups keys;
+      counted = λ some refused.
+          no_groups query header from rows m are (subst (λ (gs : List MapGroup). 0 < length gs) same some) (or_false (is_refused rows) (sym (ap has_refused cover) ∙ refused));
+    }) is_file
+
+-- the front of a part
+front_is : (pre : Preface) → AreWords pre.subject.words → length pre.subject.header ≤ 2 ^ 28 → 0 < pre.subject.sources → pre.subject.sources < 2 ^ 32 → IsCover pre.subject.sources pre.cover
+    → pre.keys ≡ record { low = []; high = [] } → length (head_bytes pre) ≤ 2 ^ 28 → IsFront pre
+front_is pre words header some few cover keys short = record {
+  is_head = record {
+    is_subject = record { are_words = words; header = header; some = some; few = few };
+    is_cover = cover;
+    are_keys = record { low = omega (arith, ap (λ (ks : Keys). length ks.low) keys); high = omega (arith, ap (λ (ks : Keys). length ks.high) keys) };
+  };
+  short = short;
+}
+
 -- the stretch of a part
 abbrev pub part_cover : ℕ → ℕ → Rows → List Stretch
 part_cover source size rows = record { place = record { source = source; from = 0; to = size; size = size }; rows = rows } ∷ []
@@ -98,13 +154,15 @@ whole_is query s plan header fields is same = subst (λ (q : Query). missing_nam
 pub part_text : (words : List (List ℕ)) (asked : Asked) (query : Query) (from : Option (List ℕ)) (p : Part) (read : IsPartRead query from p) (pre : Preface) (plan : FilePlan) (shape : Shape) (groups : List MapGroup) (f : StateFile) (text : List ℕ)
     → asked_in words ≡ Some asked → AskFor asked.words query → pre.subject.words ≡ asked.words → pre.subject.header ≡ p.header.items → pre.subject.sources ≡ asked.part.sources
     → pre.cover ≡ part_cover asked.part.source p.size p.rows → pre.keys ≡ record { low = []; high = [] } → IsPlanOf pre.subject plan → plan.plan ≡ query → IsShapeOf plan.bound shape
-    → groups ≡ listed p.map → IsFileOf shape pre groups f → text ≡ file_bytes shape.kinds.now f → IfSome from (λ bytes. IsPartText words bytes text)
-part_text words asked query None p read pre plan shape groups f text is_asked ask words_are header sources cover keys is same of_shape groups_are is_file is_text = tt
-part_text words asked query (Some bytes) p read pre plan shape groups f text is_asked ask words_are header sources cover keys is same of_shape groups_are is_file is_text =
+    → groups ≡ listed p.map → GroupsAreTold → SavedIsRead → AreWords pre.subject.words → length pre.subject.header ≤ 2 ^ 28 → asked.part.source < asked.part.sources → asked.part.sources < 2 ^ 32
+    → IsCover asked.part.sources pre.cover → length (head_bytes pre) ≤ 2 ^ 28 → IsFileOf shape pre groups f → text ≡ file_bytes shape.kinds.now f → IfSome from (λ bytes. IsPartText words bytes text)
+part_text words asked query None p read pre plan shape groups f text is_asked ask words_are header sources cover keys is same of_shape groups_are law saved fit_words fit_header below few is_cover short is_file is_text = tt
+part_text words asked query (Some bytes) p read pre plan shape groups f text is_asked ask words_are header sources cover keys is same of_shape groups_are law saved fit_words fit_header below few is_cover short is_file is_text =
     let bound = bound_is query (Some bytes) p read pre.subject plan header is same in
     let shape_is : IsShapeOf (bound_plan read.header query.plan) shape = subst (λ (b : Plan). IsShapeOf b shape) bound of_shape in
     let place : f.preface.cover ≡ record { place = whole_place asked.part.source bytes; rows = p.rows } ∷ [] =
     ap (λ (pre : Preface). pre.cover) is_file.preface_is ∙ (cover ∙ ap (λ (n : ℕ). part_cover asked.part.source n p.rows) read.size) in
+    let front = front_is pre fit_words fit_header (omega (arith, sources, below)) (omega (arith, sources, few)) (subst (λ (n : ℕ). IsCover n pre.cover) (sym sources) is_cover) keys short in
     let fields : header_of pre.subject ≡ read.header = ap (λ (l : List ℕ). record_at (records_of l) 0) header ∙ ap (λ (rs : List (List (List ℕ))). record_at rs 0) read.one in
     record {
       asked = asked;
@@ -123,5 +181,6 @@ part_text words asked query (Some bytes) p read pre plan shape groups f text is_
       };
       shape = shape;
       is_shape = shape_is;
+      is_file = is_read query read.header (Some bytes) shape pre (record { source = asked.part.source; from = 0; to = p.size; size = p.size }) p.rows p.map groups f law saved shape_is read.are groups_are cover keys front is_file;
       is_text = is_text;
     }

@@ -1,5 +1,5 @@
 -- What was read of a source, whole: its size, and its rows.
-use Rattle.std.proofs.Common.{inl, inr, ◌≡◌, ◌+◌, ◌++◌, ◌∷◌, ◌∙◌, ℕ, List, [], Option, None, Some, IfSome, ap, append_assoc, arith, length, length-append, refl, subst, sym}
+use Rattle.std.proofs.Common.{inl, inr, ◌≡◌, ◌+◌, ◌++◌, ◌∷◌, ◌∙◌, ℕ, List, [], All, Option, None, Some, IfSome, ap, append_assoc, arith, length, length-append, refl, subst, sym}
 use Rattle.std.specs.Io.KnownBytes.{Consumes, IsAtEnd}
 use Rattle.csv_rows.specs.Records.{record_at, records_of}
 use Rattle.par_io.specs.Faults.{Rose}
@@ -9,6 +9,7 @@ use Rattle.par_model.specs.Plan.{Plan}
 use Rattle.par_model.specs.Refuse.{refused_rows}
 use Rattle.par_model.specs.declared.refusal.Refusal.{Refusal}
 use Rattle.partial_agg.specs.Groups.{AreGroups, GroupsByKey}
+use Rattle.partial_agg.specs.Rows.{IsAccepted}
 use Rattle.plan_spec.specs.Query.{Query}
 use Rattle.row_blocks.specs.Blocks.{Table}
 use Rattle.state_head.specs.declared.cover.RefusedRow.{RefusedRow}
@@ -74,6 +75,7 @@ counted_rows query from r over m are = record {
   rows = over.rows;
   counted = over.count;
   few = over.few;
+  accepted = subst (λ (b : Plan). All (IsAccepted b (length over.header)) over.rows) over.bound.is (all_accepted r.bound (length over.header) over.rows r.gathered over.groups);
   none = subst (λ (b : Plan). refused_rows b (length over.header) over.rows ≡ []) over.bound.is
       (refused_in-none r.bound (over.header ∷ over.rows) (all_accepted r.bound (length over.header) over.rows r.gathered over.groups));
   are = subst (λ (b : Plan). AreGroups b over.rows m) over.bound.is are;

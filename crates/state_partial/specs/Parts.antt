@@ -6,7 +6,7 @@ use Rattle.plan_spec.specs.Query.{Query}
 use Rattle.state_head.specs.Words.{Words}
 use Rattle.state_plan.specs.FilePlans.{AskFor}
 use Rattle.state_whole.specs.Adding.{IsShapeOf}
-use Rattle.state_whole.specs.Files.{StateFile, file_bytes}
+use Rattle.state_whole.specs.Files.{IsStateFile, StateFile, file_bytes}
 use Rattle.state_whole.specs.declared.adding.Shape.{Shape}
 use Rattle.state_law.specs.Sources.{whole_place}
 use Rattle.state_law.specs.Truth.{IsReadOf}
@@ -25,7 +25,7 @@ pub record IsPartOf (words : Words) (part : SourcePart) (bytes : List ℕ) (f : 
   pub sources_are : f.preface.subject.sources ≡ part.sources
   pub keys_are : f.preface.keys ≡ record { low = []; high = [] }
 
--- the words after `partial` ask for a part, and these are the bytes of its file
+-- the words after `partial` ask for a part, and these are the bytes of its file, which a reader takes
 pub record IsPartText (words : List (List ℕ)) (bytes text : List ℕ) : Type 0 where
   pub asked : Asked
   pub is_asked : asked_in words ≡ Some asked
@@ -33,4 +33,5 @@ pub record IsPartText (words : List (List ℕ)) (bytes text : List ℕ) : Type 0
   pub is_part : IsPartOf asked.words asked.part bytes file
   pub shape : Shape
   pub is_shape : IsShapeOf (bound_plan is_part.header is_part.query.plan) shape
+  pub is_file : IsStateFile shape.columns shape.kinds.now file
   pub is_text : text ≡ file_bytes shape.kinds.now file

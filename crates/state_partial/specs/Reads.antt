@@ -1,10 +1,11 @@
 -- What was read of a source, whole.
-use Rattle.std.specs.Prelude.{◌≡◌, ◌≤◌, ◌^◌, ◌∷◌, ℕ, List, [], IfSome, Option, length}
+use Rattle.std.specs.Prelude.{◌≡◌, ◌≤◌, ◌^◌, ◌∷◌, ℕ, List, [], All, IfSome, Option, length}
 use Rattle.std.specs.FinMap as map
 use Rattle.csv_rows.specs.Records.{records_of}
 use Rattle.par_model.specs.Named.{bound_plan}
 use Rattle.par_model.specs.Refuse.{refused_rows}
 use Rattle.partial_agg.specs.Groups.{AreGroups, GroupsByKey}
+use Rattle.partial_agg.specs.Rows.{IsAccepted}
 use Rattle.plan_spec.specs.Query.{Query}
 use Rattle.row_blocks.specs.Blocks.{Table}
 use Rattle.state_head.specs.declared.cover.RefusedRow.{RefusedRow}
@@ -18,6 +19,7 @@ pub record AreCounted (query : Query) (header : List (List ℕ)) (from : Option 
   pub rows : Table
   pub counted : many ≡ length rows
   pub few : length rows ≤ 2 ^ 50
+  pub accepted : All (IsAccepted (bound_plan header query.plan) (length header)) rows
   pub none : refused_rows (bound_plan header query.plan) (length header) rows ≡ []
   pub are : AreGroups (bound_plan header query.plan) rows groups
   pub all : IfSome from (λ bytes. records_of bytes ≡ header ∷ rows)

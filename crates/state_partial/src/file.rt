@@ -1,6 +1,7 @@
 //! The file of a part.
 
-ghost use Rattle.std.specs.Prelude.{◌≡◌, ◌⊎◌, ◌∷◌, [], ℕ, List, Option, IfErr, IfOk, IfSome, Some};
+ghost use Rattle.std.specs.Prelude.{◌≡◌, ◌<◌, ◌^◌, ◌⊎◌, ◌∷◌, [], ℕ, List, Option, IfErr, IfOk, IfSome, Some};
+ghost use Rattle.state_head.specs.Cover.{AreRows, IsCover};
 ghost use Rattle.state_head.specs.Head.{subject_of};
 ghost use Rattle.state_head.specs.Words.{keys_of, words_of};
 ghost use Rattle.state_plan.specs.FilePlans.{AskFor, IsPlanOf};
@@ -10,6 +11,7 @@ ghost use Rattle.state_partial.specs.Words.{asked_in, asked_of};
 ghost use Rattle.state_partial.specs.declared.no_part.NoPart.TheVariants as no_part;
 ghost use Rattle.stream_groups.specs.declared.stop.Stop.TheVariants as stop;
 
+use crate::fits::fits_head;
 use crate::no_part::NoPart;
 use crate::reading::Part;
 use crate::words::PartWords;
@@ -17,8 +19,9 @@ use csv_rows::rows;
 use plan_spec::Plan;
 use state_head::{Head, KeyRange, Place, Rows, Stretch, Whole};
 use state_lanes::{kinds_of, lanes_of};
+use state_law::groups_are_told;
 use state_plan::FilePlan;
-use state_save::push_file;
+use state_save::{push_file, saved_is_read};
 use state_writer::WriteError;
 use std::alloc::{AllocError, Global};
 use stream_groups::Stop;
@@ -32,6 +35,7 @@ pub(crate) fn file_of(
 ) -> Result<Vec<u8>, NoPart>
     requires ask { AskFor (asked_of asked.now).words plan }
     requires read { (from : Option (List ℕ)) × IsPartRead plan from part }
+    requires part { asked.now.part.source < asked.now.part.sources }
     ensures file { IfOk result (λ file. (words : List (List ℕ)) (from : Option (List ℕ)) → asked_in words ≡ Some (asked_of asked.now) → IsPartRead plan from part → IfSome from (λ bytes. IsPartText words bytes file.items)) }
     ensures why { IfErr result (λ why. (why ≡ no_part.Long) ⊎ (why ≡ no_part.Stopped stop.Memory)) }
 {
@@ -46,10 +50,14 @@ pub(crate) fn file_of(
         header: header.as_slice(),
         sources: asked.part.sources,
     };
+    let fits = fits_head(whole, rows);
+    if !fits {
+        return Err(NoPart::Long);
+    }
     let Ok(plan) = file_plan(alloc, plan, whole) else {
         return Err(NoPart::Stopped(Stop::Memory));
     };
-    let Ok(cover) = cover_of(alloc, asked.part.source, size, rows) else {
+    let Ok(cover) = cover_of(alloc, asked.part.source, asked.part.sources, size, rows) else {
         return Err(NoPart::Stopped(Stop::Memory));
     };
     let head = Head {
@@ -57,6 +65,9 @@ pub(crate) fn file_of(
         cover,
         range: all_keys(),
     };
+    // Tells that a reader takes the file. It does nothing.
+    groups_are_told();
+    saved_is_read();
     let mut file = Vec::new(alloc);
     match push_file(alloc, &mut file, &head, &map.into_groups(), &plan.shape()) {
         Ok(()) => Ok(file),
@@ -76,9 +87,20 @@ fn all_keys<'a>() -> KeyRange<'a>
 }
 
 /// The one stretch that is all bytes of a source.
-fn cover_of(alloc: Global, source: u32, size: u64, rows: Rows) -> Result<Vec<Stretch>, AllocError>
-    ensures { IfOk result (λ cover. cover.items ≡ record { place = record { source = source; from = 0; to = size; size = size }; rows = rows } ∷ []) }
+fn cover_of(
+    alloc: Global,
+    source: u32,
+    sources: u32,
+    size: u64,
+    rows: Rows,
+) -> Result<Vec<Stretch>, AllocError>
+    requires below { source < sources }
+    requires rows { AreRows rows }
+    ensures is_cover { IfOk result (λ cover. IsCover sources cover.items) }
+    ensures few { IfOk result (λ _. sources < 2 ^ 32) }
+    ensures cover { IfOk result (λ cover. cover.items ≡ record { place = record { source = source; from = 0; to = size; size = size }; rows = rows } ∷ []) }
 {
+    let _sources = sources;
     let place = Place {
         source,
         from: 0,

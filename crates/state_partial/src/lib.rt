@@ -7,6 +7,7 @@
 
 mod drain;
 mod file;
+mod fits;
 mod groups;
 mod no_part;
 mod partial;

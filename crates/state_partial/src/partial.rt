@@ -1,6 +1,6 @@
 //! The words, the reading and the file, one after another.
 
-ghost use Rattle.std.specs.Prelude.{◌≡◌, ◌≢◌, ◌⊎◌, ◌≤◌, ℕ, List, IfErr, IfOk, IfSome, IsNone, OnOk, Some, option_map, take};
+ghost use Rattle.std.specs.Prelude.{◌≡◌, ◌≢◌, ◌⊎◌, ◌<◌, ◌≤◌, ℕ, List, IfErr, IfOk, IfSome, IsNone, OnOk, Some, option_map, take};
 ghost use Rattle.std.specs.Io.KnownBytes.{Appends};
 ghost use Rattle.answer_text.specs.Lines.{IsSaid};
 ghost use Rattle.answer_text.specs.Words.{texts};
@@ -142,6 +142,7 @@ fn make_asked<R: Threads + Wait + Sync, S: Source, P: Progress>(
     progress: &mut P,
 ) -> Result<Vec<u8>, NoPart>
     requires workers { asked.now.workers ≤ MOST_WORKERS }
+    requires part { asked.now.part.source < asked.now.part.sources }
     ensures file { IfOk result (λ file. (words : List (List ℕ)) → asked_in words ≡ Some (asked_of asked.now) → IfSome (S.left source.old) (λ bytes. IsPartText words bytes file.items)) }
     ensures why { IfErr result (λ why. (words : List (List ℕ)) → asked_in words ≡ Some (asked_of asked.now) → IsNoPart words (S.left source.old) why) }
     ensures read_fault { IfErr result (λ why. why ≡ no_part.Stopped stop.ReadFault → Rose (S.faults source.old) (S.faults source.new)) }

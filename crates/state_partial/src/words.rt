@@ -2,7 +2,7 @@
 //!
 //! They are read by the crate `clap`, as parstream's words are (`plan_spec`), so an option is written in each way that it has there.
 
-ghost use Rattle.std.specs.Prelude.{◌≡◌, ◌≤◌, IfOk, IfSome, None, codes, map, option_map, true, false};
+ghost use Rattle.std.specs.Prelude.{◌≡◌, ◌<◌, ◌≤◌, IfOk, IfSome, None, codes, map, option_map, true, false};
 ghost use Rattle.answer_text.specs.Words.{texts};
 ghost use Rattle.clap.specs.Words.{app_of, found_of, is_simple_and_free, matches_of, rows_of, with_rule};
 ghost use Rattle.plan_spec.specs.Options.{is_command_line, option_of, value_of, values_of};
@@ -60,6 +60,7 @@ impl<'a> PartWords<'a> {
     ) -> Result<Option<PartWords<'a>>, AllocError>
         ensures asked { IfOk result (λ found. option_map asked_of found ≡ asked_in (texts words.now)) }
         ensures workers { IfOk result (λ found. IfSome found (λ asked. asked.workers ≤ MOST_WORKERS)) }
+        ensures part { IfOk result (λ found. IfSome found (λ asked. asked.part.source < asked.part.sources)) }
     {
         let given = given_values(alloc, words)?;
         match given {
@@ -72,6 +73,7 @@ impl<'a> PartWords<'a> {
     fn of_values(given: Given<'a>) -> Option<PartWords<'a>>
         ensures asked { option_map asked_of result ≡ given_by given.entry }
         ensures workers { IfSome result (λ asked. asked.workers ≤ MOST_WORKERS) }
+        ensures part { IfSome result (λ asked. asked.part.source < asked.part.sources) }
     {
         let Given {
             group,
@@ -133,7 +135,8 @@ fn workers_given(given: Option<&str>) -> Option<u32>
 
 /// Which of how many sources was given, or the only one.
 fn source_given(given: Option<&str>) -> Option<SourcePart>
-    ensures { result ≡ source_given (text_of given.entry) }
+    ensures part { result ≡ source_given (text_of given.entry) }
+    ensures below { IfSome result (λ part. part.source < part.sources) }
 {
     match given {
         Some(text) => source_of(text),
@@ -146,7 +149,8 @@ fn source_given(given: Option<&str>) -> Option<SourcePart>
 
 /// Which of how many sources, as `0/3`.
 fn source_of(text: &str) -> Option<SourcePart>
-    ensures { result ≡ source_in text.now }
+    ensures part { result ≡ source_in text.now }
+    ensures below { IfSome result (λ part. part.source < part.sources) }
 {
     let (source, sources) = text.split_once('/')?;
     let source = number(source, MOST_SOURCES)?;

@@ -3,7 +3,7 @@ use Rattle.partial_agg.specs.declared.groups.Group.{Group as MapGroup}
 use Rattle.result_text.specs.Printable.{IsKeyOf}
 use Rattle.state_whole.specs.Files.{file_bytes}
 use Rattle.state_partial.specs.Words.{asked_of}
-use Rattle.state_partial.proofs.Files.{keys_read, part_text}
+use Rattle.state_partial.proofs.Files.{keys_read, on_true, part_text}
 use Rattle.state_partial.proofs.file.file_of.Goals as goal
 
 pub push_file-requires-clause-shape : goal.push_file-requires-clause-shape
@@ -23,5 +23,8 @@ returns-in-Ok-push_file-clause-file c = λ words from is_asked read.
     let shape = c.shape.result in
     let is = c.in-Ok.ensures in
     part_text words (asked_of c.args.asked.now) c.args.plan from c.args.part read _ c.in-Ok.plan shape c.into_groups.result file.0 c.push_file-2.new.out.items is_asked c.requires.ask c.plan_words.ensures c.as_slice.ensures.value refl
-    c.in-Ok-cover_of.ensures c.all_keys.ensures is.plan is.same (c.shape.ensures.of_plan _ is.plan) c.into_groups.ensures file.1
+    c.in-Ok-cover_of.ensures.cover c.all_keys.ensures is.plan is.same (c.shape.ensures.of_plan _ is.plan) c.into_groups.ensures c.groups_are_told.ensures c.saved_is_read.ensures
+    (on_true c.fits_head-fits.result c.if-not-fits.false c.fits_head-fits.ensures.words)
+    (on_true c.fits_head-fits.result c.if-not-fits.false c.fits_head-fits.ensures.header)
+    c.requires.part c.in-Ok-cover_of.ensures.few c.in-Ok-cover_of.ensures.is_cover c.in-Ok-push_file.ensures.short file.1
     (file.2 ∙ ap (λ (l : List ℕ). l ++ file_bytes shape.kinds.now file.0) c.new-file.ensures.items)

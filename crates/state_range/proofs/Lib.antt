@@ -1,0 +1,4 @@
+mod Between
+pub mod Kept
+mod Lines
+mod Texts
