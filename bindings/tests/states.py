@@ -379,10 +379,12 @@ def cause_of(data, plan):
 # Texts
 
 
-def field(rng, name):
+def field(rng, name, places):
     if name in "vw":
-        wide = str(rng.randint(-(2**63), 2**63 - 1))
-        return rng.choice(["", str(rng.randint(-20, 20)), str(rng.randint(-20, 20)), f" +{rng.randint(0, 9)} ", "007", wide])
+        wide = rng.choice([rng.randint(-(2**63), 2**63 - 1), -(2**63), 2**63 - 1])
+        small = rng.choice([str(rng.randint(-20, 20)), "007", f" +{rng.randint(0, 9)} ", *["-.5", "3.1 ", "0.0"][: 3 * places]])
+        point = f".{abs(wide) % 10**places:0{places}}" if places else ""
+        return rng.choice(["", small, small, f"{'-' * (wide < 0)}{abs(wide) // 10**places}{point}"])
     return rng.choice(["", "a", "b", "a,b", "x\ny", 'q"r', "long" * rng.randint(0, 12), "7", "007", "é", "z\r\n,", "x y"])
 
 
@@ -405,12 +407,12 @@ def spoil(rng, names, rows):
     elif kind == 2:
         row[rng.randrange(len(row))] = "k" * 250
     else:
-        row[names.index(rng.choice("vw"))] = rng.choice(["1x", "1.505", "9223372036854775808", ".", "+", "5."])
+        row[min(names.index(rng.choice("vw")), len(row) - 1)] = rng.choice(["1x", "1.505", "9223372036854775808", ".", "+", "5."])
 
 
-def source_of(rng, names, end, is_bad, is_long):
+def source_of(rng, plan, names, end, is_bad, is_long):
     """The rows of a source, and the bytes of each. A long one has more groups by column k than there is room for in a block."""
-    rows = [[field(rng, name) for name in names] for _ in range(1000 if is_long else rng.choice([0, 1, 3, 20, 200]))]
+    rows = [[field(rng, name, plan.places(name)) for name in names] for _ in range(1000 if is_long else rng.choice([0, 1, 3, 20, 200]))]
     for row in rows if is_long else []:
         row[names.index("k")] = f"{rng.randrange(10**9)} and more, to be a long key" * 3
     while rows and is_bad:
@@ -450,12 +452,12 @@ def one_text(rng, program, counts):
     header = written(names, end)
     plan = Plan(rng, [name for name in names if name not in ("v", "w", "i,j")], True)
     if is_long:
-        plan = Plan.of(["k"], plan.items, [], plan.decimals)
+        plan = Plan.of(["k"], plan.items, [], "")
     sources = rng.choice([1, 1, 2, 4])
     files, whole, before = [], header, []
     is_bad = rng.random() < 0.4
     for source in range(sources):
-        rows, lines = source_of(rng, names, end, is_bad and not is_long and rng.random() < 0.6, is_long)
+        rows, lines = source_of(rng, plan, names, end, is_bad and not is_long and rng.random() < 0.6, is_long)
         size = len(header) + sum(map(len, lines))
         words = ["partial", f"--source={source}/{sources}", f"--workers={rng.randint(0, 3)}", *plan.words()]
         made = program.run(words, header + b"".join(lines))
