@@ -15,7 +15,7 @@ usage: parstream [--group COLUMNS] --agg ITEMS [--where FILTER]..
                  [--decimals PLACES] [--workers N]
        parstream partial [--source I/N] [--group COLUMNS] --agg ITEMS ..
        parstream combine
-       parstream finalize
+       parstream finalize [--above RECORD] [--below RECORD]
 
 Reads comma-separated records from the standard input, of which the first is the
 header, and writes a table with a row for each group.
@@ -41,6 +41,8 @@ sources, if it reads the states of all of them.
   --workers N      0 to 64 threads besides the first; 2 if it is not given
   --source I/N     with partial: the number of the source, from 0 on, and how
                    many there are; 0/1 if it is not given
+  --above RECORD   with finalize: only the groups from this key on, and no header
+  --below RECORD   with finalize: only the groups before this key
   -h, --help       this text
   --version        the program's version
 

@@ -51,7 +51,15 @@ fn main(rt: HostRuntime) -> ExitCode {
     }
     if let Some(form) = form_of(words.as_slice()) {
         let mut source = StdSource::new(rt.stdin());
-        let status = run_form(&rt, rt.alloc(), form, &mut source, &mut out, &mut err);
+        let status = run_form(
+            &rt,
+            rt.alloc(),
+            form,
+            words.as_slice(),
+            &mut source,
+            &mut out,
+            &mut err,
+        );
         return ExitCode::from(status);
     }
     if let Some(asked) = part_words(words.as_slice()) {

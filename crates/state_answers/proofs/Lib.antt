@@ -1,3 +1,4 @@
 mod Answers
 mod Asked
+mod Parts
 mod Sent

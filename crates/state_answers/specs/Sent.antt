@@ -1,15 +1,19 @@
 -- Bytes of files that came about of some sources, as an engine brings them, and what the forms come to over them.
-use Rattle.std.specs.Prelude.{◌≡◌, ◌<◌, ◌≤◌, ◌^◌, ◌++◌, ℕ, List, All, length}
+use Rattle.std.specs.Prelude.{◌≡◌, ◌<◌, ◌≤◌, ◌^◌, ◌++◌, ◌∷◌, ℕ, List, [], All, get_or, length}
+use Rattle.csv_rows.specs.Cuts.{IsCut}
+use Rattle.csv_rows.specs.Records.{records_of}
 use Rattle.par_model.specs.Named.{bound_plan}
 use Rattle.par_model.specs.Outcome.{IsAnswer}
 use Rattle.partial_agg.specs.Groups.{AreGroups}
 use Rattle.plan_spec.specs.Query.{Query}
 use Rattle.state_head.specs.Head.{Subject, head_bytes}
+use Rattle.state_head.specs.declared.cover.Place.{Place}
 use Rattle.state_head.specs.declared.cover.Stretch.{Stretch}
+use Rattle.state_law.specs.Law.{with_header}
 use Rattle.state_law.specs.Made.{IsMade}
-use Rattle.state_law.specs.Sources.{Work, all_records, all_rows, rows_in}
+use Rattle.state_law.specs.Sources.{IsTile, Work, all_records, all_rows, bytes_at, rows_in, whole_place}
 use Rattle.state_law.specs.Told.{all_keys}
-use Rattle.state_law.specs.Truth.{IsFirstOfAll}
+use Rattle.state_law.specs.Truth.{IsFirstOfAll, IsReadOf}
 use Rattle.state_load.specs.Loading.{files_bytes, stretches_of}
 use Rattle.state_plan.specs.FilePlans.{AskFor, header_of}
 use Rattle.state_query.specs.Inputs.{AreOneFile, Input, IsInput, IsTableOf, IsWhole, groups_in}
@@ -106,3 +110,28 @@ CatIsSent = (j : Job) (bytes others : List ℕ) → AreSent j bytes → AreSent 
 abbrev pub CombineIsSent : Type 0
 CombineIsSent = (j : Job) (bytes file : List ℕ) → IsJob j → (sent : AreSent j bytes) → length (rows_in (work_by j) (stretches_of sent.files)) ≤ 2 ^ 50 → (one : AreOneFile bytes file) → one.input.keys ≡ all_keys
     → length (head_bytes one.f.preface) ≤ 2 ^ 28 → AreSent j file
+
+-- what a reading of bytes gives as a file, by the plan that the words ask for
+pub record IsPart (j : Job) (p : Place) (read : List ℕ) (f : StateFile) : Type 0 where
+  pub query : Query
+  pub ask_for : AskFor j.subject.words query
+  pub header : List (List ℕ)
+  pub header_is : records_of j.subject.header ≡ header ∷ []
+  pub is_read : IsReadOf query.plan header p read f
+  pub subject_is : f.preface.subject ≡ j.subject
+
+-- bytes are those of a file that can be read
+pub record IsFileText (j : Job) (f : StateFile) (bytes : List ℕ) : Type 0 where
+  pub shape : Shape
+  pub is_shape : IsShapeBy j shape
+  pub is_file : IsStateFile shape.columns shape.kinds.now f
+  pub is : bytes ≡ file_bytes shape.kinds.now f
+
+-- so what `partial` made of a whole source may be sent
+abbrev pub PartIsSent : Type 0
+PartIsSent = (j : Job) (source : ℕ) (f : StateFile) (bytes : List ℕ) → IsJob j → IsPart j (whole_place source (get_or j.texts source [])) (get_or j.texts source []) f → IsFileText j f bytes → AreSent j bytes
+
+-- and what it made of a tile of one, after the header
+abbrev pub TileIsSent : Type 0
+TileIsSent = (j : Job) (p : Place) (before : List ℕ) (f : StateFile) (bytes : List ℕ) → IsJob j → records_of before ≡ header_of j.subject ∷ [] → IsCut before → IsTile (work_by j) p
+    → IsPart j p (with_header p.from before (bytes_at (work_by j) p)) f → IsFileText j f bytes → AreSent j bytes

@@ -7,7 +7,7 @@
 #![tactic(auto)]
 
 ghost use Rattle.state_answers.specs.Answers.{AskForOne, GroupsAreAll, OneFileIsMade, ReadingIsMade, RefusalIsFirst, TableAnswers, TablesAgree, TileReadingIsMade};
-ghost use Rattle.state_answers.specs.Sent.{CatIsSent, CombineIsMade, CombineIsSent, FinalizeAnswers, FinalizeRefuses, FinalizesAgree, SentAreRead, SentGroupsAreAll};
+ghost use Rattle.state_answers.specs.Sent.{CatIsSent, CombineIsMade, CombineIsSent, FinalizeAnswers, FinalizeRefuses, FinalizesAgree, PartIsSent, SentAreRead, SentGroupsAreAll, TileIsSent};
 
 use part_law::answers_agree;
 use state_law::{combined_is_read, made_is_true, row_is_first, sum_is_all, text_answers};
@@ -129,3 +129,13 @@ pub fn combine_is_sent()
     combined_is_read();
     one_file_is_made();
 }
+
+/// What `partial` makes of a whole source may be sent. A law: it does nothing when it runs.
+pub fn part_is_sent()
+    ensures { PartIsSent }
+{}
+
+/// So may what it makes of a tile of one, after the header. A law: it does nothing when it runs.
+pub fn tile_is_sent()
+    ensures { TileIsSent }
+{}

@@ -8,7 +8,9 @@ use Rattle.partial_agg.specs.declared.groups.Group.{Group}
 use Rattle.result_text.specs.Pieces.{joined}
 use Rattle.result_text.specs.Printable.{IsSmallSlot}
 use Rattle.result_text.specs.Text.{IsTextOf}
+use Rattle.state_head.specs.Words.{Keys}
 use Rattle.state_head.specs.declared.cover.Stretch.{Stretch}
+use Rattle.state_range.specs.Ranges.{IsTextWithin}
 use Rattle.state_total.specs.Total.{IsCounted, IsFirstRefused, IsNoTotal, IsWholeCover}
 use Rattle.state_finalize.specs.declared.finishing.FinishFault.{FinishFault}
 use Rattle.state_finalize.specs.declared.finishing.FinishFault.TheVariants as fault
@@ -25,6 +27,16 @@ pub record IsFinished (names : NamedPlan) (plan : Plan) (sources : ℕ) (m : Gro
   pub cover : List Stretch
   pub is_whole : IsWholeCover sources stretches cover
   pub comes_to : ComesTo names plan m cover f
+
+-- what they come to in a range of keys
+abbrev pub ComesToWithin : NamedPlan → Plan → Keys → GroupsByKey → List Stretch → Finished → Type 0
+ComesToWithin names plan range m cover (Table pieces) = All IsCounted cover × IsTextWithin names plan range m (joined pieces.items)
+ComesToWithin names plan range m cover (Refused row) = IsFirstRefused cover row
+
+pub record IsFinishedWithin (names : NamedPlan) (plan : Plan) (sources : ℕ) (range : Keys) (m : GroupsByKey) (stretches : List Stretch) (f : Finished) : Type 0 where
+  pub cover : List Stretch
+  pub is_whole : IsWholeCover sources stretches cover
+  pub comes_to : ComesToWithin names plan range m cover f
 
 -- counts and sums as at most 2^50 rows give them
 abbrev pub HaveSmallSlots : List Group → Type 0

@@ -94,7 +94,7 @@ fn table_of<R: Threads + Sync>(
 }
 
 /// Whether the slots of all groups are as at most 2^50 rows give them.
-fn are_small(groups: &Groups) -> bool
+pub(crate) fn are_small(groups: &Groups) -> bool
     ensures small { result ≡ true → HaveSmallSlots groups.now }
     ensures not_small { result ≡ false → HaveSmallSlots groups.now → ⊥ }
 {

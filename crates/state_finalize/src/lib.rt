@@ -3,5 +3,7 @@
 #![tactic(auto)]
 
 mod finishing;
+mod ranged;
 
 pub use finishing::{FinishFault, Finished, finish};
+pub use ranged::finish_range;

@@ -32,7 +32,7 @@ use Rattle.state_query.proofs.Keys.{keys_of_sum, stretches_of_sum}
 use Rattle.state_query.proofs.Sums.{groups_by, input_by, with_shape}
 
 -- the plan over the columns of the header
-bound_is : (bytes : List ℕ) (l : Loaded) (is : IsLoaded bytes l) → l.plan.bound ≡ bound_of is.input
+pub bound_is : (bytes : List ℕ) (l : Loaded) (is : IsLoaded bytes l) → l.plan.bound ≡ bound_of is.input
 bound_is bytes l is = is.is_plan.bound ∙ ap (λ (q : Query). bound_plan (header_of is.input.subject) q.plan) is.query_is
 
 pub bound_from : (bytes : List ℕ) (l : Loaded) → IsLoaded bytes l → IsBoundFrom l.plan.plan.plan l.plan.bound
@@ -94,7 +94,7 @@ not_combined bytes l why is none = subst (λ (ss : List Stretch). IsNotCombined 
 
 -- ---- a table, or a refused row
 
-whole_of : (bytes : List ℕ) (l : Loaded) (is : IsLoaded bytes l) (cover : List Stretch) → IsWholeCover l.whole.sources l.sum.cover.items cover → IsWhole is.input cover
+pub whole_of : (bytes : List ℕ) (l : Loaded) (is : IsLoaded bytes l) (cover : List Stretch) → IsWholeCover l.whole.sources l.sum.cover.items cover → IsWhole is.input cover
 whole_of bytes l is cover whole =
     let by_sources = subst (λ (s : Subject). IsWholeCover s.sources l.sum.cover.items cover) is.subject_is whole in
     record { is_cover = subst (λ (ss : List Stretch). IsWholeCover is.input.subject.sources ss cover) is.sum_is.cover_is by_sources }

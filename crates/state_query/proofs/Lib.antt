@@ -3,5 +3,6 @@ mod Keys
 mod Known
 mod Loads
 mod Pieces
+mod Ranges
 mod Statuses
 mod Sums

@@ -18,6 +18,7 @@ is_read_fault (stop.Refused source row said) is = cc is
 is_read_fault stop.Long is = cc is
 is_read_fault stop.WriteFault is = cc is
 is_read_fault stop.Memory is = cc is
+is_read_fault stop.NoKey is = cc is
 
 pub is_write_fault : (why : Stop) → (stop_says why).0 ≡ WRITE_FAULT → why ≡ stop.WriteFault
 is_write_fault stop.ReadFault is = cc is
@@ -30,6 +31,7 @@ is_write_fault (stop.Refused source row said) is = cc is
 is_write_fault stop.Long is = cc is
 is_write_fault stop.WriteFault is = refl
 is_write_fault stop.Memory is = cc is
+is_write_fault stop.NoKey is = cc is
 
 pub never_written : (why : Stop) → (stop_says why).0 ≢ WRITTEN
 never_written stop.ReadFault is = cc is
@@ -42,6 +44,7 @@ never_written (stop.Refused source row said) is = cc is
 never_written stop.Long is = cc is
 never_written stop.WriteFault is = cc is
 never_written stop.Memory is = cc is
+never_written stop.NoKey is = cc is
 
 pub no_read_fault : (bytes : List ℕ) (why : Stop) → IsStopOf bytes why → why ≢ stop.ReadFault
 no_read_fault bytes why is e = subst (IsStopOf bytes) e is

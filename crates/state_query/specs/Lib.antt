@@ -1,3 +1,4 @@
 pub mod Inputs
+pub mod Ranges
 pub mod Stops
 pub mod Whys

@@ -1,6 +1,6 @@
 -- Why nothing is written: the status, and what its line says.
 use Rattle.std.specs.Prelude.{[], ◌++◌, ◌∷◌, ℕ, List, codes, decimal, string_bytes}
-use Rattle.answer_text.specs.declared.status.TheConstants.{NO_MEMORY, READ_FAULT, REFUSED, TOO_LARGE, WRITE_FAULT}
+use Rattle.answer_text.specs.declared.status.TheConstants.{MISUSED, NO_MEMORY, READ_FAULT, REFUSED, TOO_LARGE, WRITE_FAULT}
 use Rattle.state_text.specs.Causes.{cause_text}
 use Rattle.state_text.specs.Covers.{cover_text, gap_text}
 use Rattle.state_query.specs.declared.stop.Stop.{Stop}
@@ -29,5 +29,6 @@ stop_says (stop.Missing gap) = (MISSING, gap_text gap)
 stop_says stop.Rows = (BAD_STATES, codes "a group has too many rows")
 stop_says (stop.Refused source row said) = (REFUSED, row_says source row (string_bytes said))
 stop_says stop.Long = (TOO_LARGE, codes "too long for a file of states")
+stop_says stop.NoKey = (MISUSED, codes "--above and --below take a record of the columns that the plan groups by")
 stop_says stop.WriteFault = (WRITE_FAULT, codes "write fault")
 stop_says stop.Memory = (NO_MEMORY, codes "out of memory")

@@ -115,6 +115,7 @@ IsStopOf bytes stop.Rows = HaveLargeSlots bytes
 IsStopOf bytes (stop.Refused source row said) = RefuseRow bytes source row (string_bytes said)
 IsStopOf bytes stop.Long = AreTooLong bytes
 IsStopOf bytes stop.WriteFault = ⊥
+IsStopOf bytes stop.NoKey = ⊥
 IsStopOf bytes stop.Memory = Unit {0}
 
 -- why a call on a source that has these bytes left ends so: a read or a write failed, or the reason is one of the bytes

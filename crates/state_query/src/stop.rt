@@ -14,7 +14,7 @@ ghost use Rattle.state_query.specs.Whys.{IsNoInput, IsStopOf, NamesNoPlan};
 ghost use Rattle.state_query.specs.declared.stop.Stop.TheVariants as stop;
 ghost use Rattle.state_writer.specs.declared.writer.WriteError.TheVariants as variant;
 
-use answer_text::{NO_MEMORY, READ_FAULT, REFUSED, TOO_LARGE, WRITE_FAULT, write_pieces};
+use answer_text::{MISUSED, NO_MEMORY, READ_FAULT, REFUSED, TOO_LARGE, WRITE_FAULT, write_pieces};
 use par_io::{Failed, Sink};
 use par_model::Refusal;
 use plan_spec::Plan;
@@ -54,6 +54,7 @@ pub enum Stop {
     Long,
     WriteFault,
     Memory,
+    NoKey,
 }
 
 impl From<Failed> for Stop {
@@ -139,6 +140,7 @@ impl Stop {
             Stop::Long => TOO_LARGE,
             Stop::WriteFault => WRITE_FAULT,
             Stop::Memory => NO_MEMORY,
+            Stop::NoKey => MISUSED,
         }
     }
 
@@ -165,6 +167,9 @@ impl Stop {
             Stop::Long => plain("too long for a file of states"),
             Stop::WriteFault => plain("write fault"),
             Stop::Memory => plain("out of memory"),
+            Stop::NoKey => {
+                plain("--above and --below take a record of the columns that the plan groups by")
+            }
         }
     }
 

@@ -14,3 +14,6 @@ returns-in-WriteFault c = c.plain-in-WriteFault.ensures ∙ ap (λ (s : Stop). l
 
 pub returns-in-Memory : goal.returns-in-Memory
 returns-in-Memory c = c.plain-in-Memory.ensures ∙ ap (λ (s : Stop). line (stop_says s).1) (sym c.in-Memory.is)
+
+pub returns-in-NoKey : goal.returns-in-NoKey
+returns-in-NoKey c = c.plain-in-NoKey.ensures ∙ ap (λ (s : Stop). line (stop_says s).1) (sym c.in-NoKey.is)

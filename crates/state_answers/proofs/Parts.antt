@@ -1,0 +1,43 @@
+-- What `partial` made may be sent.
+use Rattle.std.proofs.Common.{◌≡◌, ◌∙◌, ℕ, List, [], ◌∷◌, ap, append-nil, get_or, subst, sym}
+use Rattle.std.proofs.lemmas.List.Elements.{All-cons, All-nil}
+use Rattle.csv_rows.specs.Records.{record_at}
+use Rattle.plan_spec.specs.Query.{Query}
+use Rattle.row_blocks.specs.Blocks.{Table}
+use Rattle.state_head.specs.declared.cover.Place.{Place}
+use Rattle.state_law.specs.Law.{with_header}
+use Rattle.state_law.specs.Made.{IsMade, tile, whole}
+use Rattle.state_law.specs.Sources.{bytes_at, whole_place}
+use Rattle.state_law.specs.Truth.{IsReadOf}
+use Rattle.state_plan.specs.FilePlans.{header_of}
+use Rattle.state_whole.specs.Files.{StateFile, file_bytes}
+use Rattle.state_answers.specs.Sent.{AreSent, IsFileText, IsJob, IsPart, IsSent, Job, PartIsSent, TileIsSent, work_by}
+use Rattle.state_answers.proofs.Asked.{ask_for_one}
+
+-- by the query and the header of the job
+read_by : (j : Job) (p : Place) (read : List ℕ) (f : StateFile) → IsJob j → IsPart j p read f → IsReadOf j.query.plan (header_of j.subject) p read f
+read_by j p read f job part =
+    let same : part.query ≡ j.query = ask_for_one j.subject.words part.query j.query part.ask_for job.ask_for in
+    let head : part.header ≡ header_of j.subject = sym (ap (λ (l : Table). record_at l 0) part.header_is) in
+    let by_query = subst (λ (q : Query). IsReadOf q.plan part.header p read f) same part.is_read in
+    subst (λ (h : List (List ℕ)). IsReadOf j.query.plan h p read f) head by_query
+
+one_sent : (j : Job) (p : Place) (read : List ℕ) (f : StateFile) (bytes : List ℕ) → IsPart j p read f → IsFileText j f bytes → IsMade (work_by j) f → AreSent j bytes
+one_sent j p read f bytes part text made = record {
+  shape = text.shape;
+  is_shape = text.is_shape;
+  files = f ∷ [];
+  each = All-cons (IsSent j text.shape) f [] (record { made = made; is_file = text.is_file; subject_is = part.subject_is }) (All-nil (IsSent j text.shape));
+  are = text.is ∙ sym (append-nil (file_bytes text.shape.kinds.now f));
+}
+
+pub part_is_sent : PartIsSent
+part_is_sent j source f bytes job part text =
+    let t = get_or j.texts source [] in
+    let p = whole_place source t in
+    one_sent j p t f bytes part text (whole source f (read_by j p t f job part))
+
+pub tile_is_sent : TileIsSent
+tile_is_sent j p before f bytes job one cut is_tile part text =
+    let read = with_header p.from before (bytes_at (work_by j) p) in
+    one_sent j p read f bytes part text (tile before p f one cut is_tile (read_by j p read f job part))
