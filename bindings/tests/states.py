@@ -7,8 +7,8 @@
 
 Random texts are cut into parts, of one source or several. What each part comes to is written here, by docs/STATES.md and by
 nothing of the program: `parstream partial` has to write the same bytes, and `parstream combine`, of some of them at random, the
-bytes of their sum. `parstream finalize` of all that is left has to give the table of one pass, or to refuse the same row; with a
-part left out or twice the status is 9 or 8. Then files are damaged, 10,000 times at least. One with any bytes is refused. One
+bytes of their sum. `parstream finalize` of all that is left has to give the table of one pass, in one piece or by ranges, or to
+refuse the same row; with a part left out or twice the status is 9 or 8. Then files are damaged, 10,000 times at least. One with any bytes is refused. One
 whose checksums and foot were made anew is refused for the cause that is found here, or, if there is none, is a file that reads
 back as it is. The files of version 1 that are kept in bindings/tests/states come to what they came to when they were made. Ends with
 a line of what was tried, or with what is wrong.
@@ -444,6 +444,28 @@ def refused_row(line):
     return found and (int(found[1] or 0), int(found[2]), found[3])
 
 
+def in_ranges(rng, program, plan, data, table, counts):
+    """The ranges between some records, one after another, have to be the table; a record of other columns is no end."""
+    width = len(plan.groups)
+    keys = [row[:width] for row in csv.reader(io.StringIO(table.decode(), newline=""))][1:]
+    cuts = rng.sample(keys, min(len(keys), rng.randint(0, 3))) + [[field(rng, "k", 0) for _ in range(width)] for _ in range(rng.randint(0, 2))]
+    cuts = sorted({tuple(part.encode() for part in cut) for cut in cuts})
+    ends = [written([part.decode() for part in cut], b"").decode() for cut in cuts]
+    made = b""
+    for low, high in zip([None] + ends, ends + [None]):
+        words = ["--above", low] * (low is not None) + ["--below", high] * (high is not None)
+        done = program.run(["finalize", *words], data)
+        if done[0] != 0 or done[2]:
+            fail("a range ended with", done[0], done[2].decode(), words)
+        made += done[1]
+        counts["ranges"] += 1
+    if made != table:
+        fail("other ranges", plan.words(), ends, table[:400], made[:400])
+    done = program.run(["finalize", "--above", written(["a"] * (width + 1), b"").decode()], data)
+    if done[0] != 2 or done[1]:
+        fail("a record of more columns is an end, and the status is", done[0], done[2].decode())
+
+
 def one_text(rng, program, counts):
     names = ["k", "v", "w", *rng.sample(["g", "h", "i,j"], rng.randint(0, 3))]
     rng.shuffle(names)
@@ -489,6 +511,8 @@ def one_text(rng, program, counts):
     done = program.run(["finalize"], b"".join(data for data, _ in some))
     if status == 0 and done != (0, table, b""):
         fail("another table", plan.words(), done[0], done[2].decode(), whole[:400])
+    if status == 0 and plan.groups and counts["texts"] % 3 == 0:
+        in_ranges(rng, program, plan, b"".join(data for data, _ in some), table, counts)
     if status == 1:
         counts["refused"] += 1
         one, other = refused_row(said), refused_row(done[2])
@@ -670,7 +694,7 @@ def main(words):
     program = Program(*(os.path.abspath(word) for word in (words[:1] + words[3:4])))
     seconds = float(words[1]) if len(words) > 1 else 40.0
     rng = random.Random(int(words[2]) if len(words) > 2 else 1)
-    counts = dict.fromkeys(["texts", "parts", "combines", "refused", "of several blocks", "repaired", "files of them"], 0)
+    counts = dict.fromkeys(["texts", "parts", "combines", "ranges", "refused", "of several blocks", "repaired", "files of them"], 0)
     kept, end = [], time.monotonic() + seconds / 2
     while counts["texts"] < 60 or time.monotonic() < end:
         kept += [(data, plan) for data, plan in one_text(rng, program, counts) if len(data) < 1500]
