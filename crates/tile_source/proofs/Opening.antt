@@ -11,7 +11,7 @@ use Rattle.csv_rows.specs.declared.place.Place.{Place}
 use Rattle.csv_rows.specs.declared.place.Place.TheVariants as place
 use Rattle.csv_rows.proofs.Follows.{scan-cut}
 use Rattle.row_windows.specs.Seams.{BeginsLine, IsSeam, is_line_end}
-use Rattle.tile_source.specs.Begins.{Begins, Brings, Brought, IsLineEnd}
+use Rattle.tile_source.specs.Begins.{Begins, Brings, Brought, EndsInRecord, IsLineEnd}
 use Rattle.tile_source.specs.Finding.{HasBegun, OpensAt}
 use Rattle.tile_source.specs.Header.{EndsHere, IsAll, IsHeaded}
 use Rattle.tile_source.specs.Left.{lack, tile_left, zeros}
@@ -181,11 +181,11 @@ no-line-end (suc n) (x ∷ xs) none line = cc none
 
 -- a header's line, and the file from a place on
 pub opens-place : (span : Span) (b : Begin) (t : Tile) (text header after rest : List ℕ) (end n at : ℕ) (old mid new : Option (List ℕ)) → 0 < span.from → IsHeaded text end mid → Consumes old mid text → header ≡ take end text → after ≡ drop end text
-    → IsLineEnd (take n after) → HasBegun (drop n after) mid new span.from at rest → OpensAt span header rest at b t → IfSome old (λ bytes. Begins span bytes b (tile_left t new))
-opens-place span b t text header after rest end n at None mid new some headed reads front back line begun opens = tt
-opens-place span b t text header after rest end n at (Some bytes) None new some headed reads front back line begun opens = absurd reads
-opens-place span b t text header after rest end n at (Some bytes) (Some m) None some headed reads front back line begun opens = absurd begun.reads
-opens-place span b t text header after rest end n at (Some bytes) (Some m) (Some left) some headed reads front back line begun opens =
+    → EndsInRecord (take end text) → IsLineEnd (take n after) → HasBegun (drop n after) mid new span.from at rest → OpensAt span header rest at b t → IfSome old (λ bytes. Begins span bytes b (tile_left t new))
+opens-place span b t text header after rest end n at None mid new some headed reads front back last line begun opens = tt
+opens-place span b t text header after rest end n at (Some bytes) None new some headed reads front back last line begun opens = absurd reads
+opens-place span b t text header after rest end n at (Some bytes) (Some m) None some headed reads front back last line begun opens = absurd begun.reads
+opens-place span b t text header after rest end n at (Some bytes) (Some m) (Some left) some headed reads front back last line begun opens =
     let s : Brought = record { header = take end text; line_end = take n after; passed = begun.passed; tail = rest ++ left } in
     let ends : EndsHere text end = elim headed [
       | inl ends ↦ ends
@@ -197,7 +197,7 @@ opens-place span b t text header after rest end n at (Some bytes) (Some m) (Some
     ap (λ (l : List ℕ). l ++ m) (sym (take-append-drop end text)) ∙ (append_assoc (take end text) (drop end text) m ∙ ap (λ (l : List ℕ). take end text ++ (l ++ m)) (sym back)) in
     let brings : Brings span bytes b s = record {
       are = reads ∙ (whole ∙ ap (λ (l : List ℕ). take end text ++ l) passed);
-      front = inr (some, record { line = line; at = opens.at_is ∙ begun.at_is; whole = ends.cut.seam.whole });
+      front = inr (some, record { line = line; at = opens.at_is ∙ begun.at_is; whole = ends.cut.seam.whole; last = last });
       header = opens.long ∙ ap length front;
       one = inl ends.one;
       begins = elim begun.begins [ inl first ↦ inr (begins-more rest left first) | inr none ↦ inl (both-none rest left none.0 none.1) ];

@@ -1,8 +1,8 @@
 -- Where a tile begins, and what it is.
-use Rattle.std.specs.Prelude.{◌≡◌, ◌≤◌, ◌<◌, ◌+◌, ◌-◌, ◌^◌, ◌⊎◌, ◌++◌, min, [], ◌∷◌, ℕ, List, Option, Some, length}
+use Rattle.std.specs.Prelude.{◌≡◌, ◌≤◌, ◌<◌, ◌+◌, ◌-◌, ◌^◌, ◌⊎◌, ◌++◌, min, [], ◌∷◌, ℕ, List, Option, Some, length, false, slice_index}
 use Rattle.csv_rows.specs.Cuts.{IsCut}
 use Rattle.csv_rows.specs.Records.{records_of}
-use Rattle.row_windows.specs.Seams.{BeginsLine, IsSeam}
+use Rattle.row_windows.specs.Seams.{BeginsLine, IsSeam, is_line_end}
 use Rattle.tile_source.specs.Left.{lack}
 use Rattle.tile_source.specs.declared.open.Begin.{Begin}
 use Rattle.tile_source.specs.declared.open.Span.{Span}
@@ -26,11 +26,17 @@ pub record IsFromFront (b : Begin) (s : Brought) : Type 0 where
   pub at : b.at ≡ length s.header
   pub whole : (s.tail ≡ []) ⊎ IsCut s.header
 
+-- the last byte ends no line. Of a text, only one front that can be cut off, and has one record, ends so
+pub record EndsInRecord (bytes : List ℕ) : Type 0 where
+  pub some : 0 < length bytes
+  pub last : is_line_end (slice_index bytes (length bytes - 1)) ≡ false
+
 -- a line that is the header, and then the file from a place on, up to the end of a line or to its end
 pub record IsFromPlace (from : ℕ) (b : Begin) (s : Brought) : Type 0 where
   pub line : IsLineEnd s.line_end
   pub at : b.at ≡ min (from + length s.passed) (2 ^ 64 - 1)
   pub whole : IsCut s.header
+  pub last : EndsInRecord s.header
 
 -- a source brings this for a tile that begins here
 pub record Brings (span : Span) (bytes : List ℕ) (b : Begin) (s : Brought) : Type 0 where

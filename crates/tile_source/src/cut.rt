@@ -103,7 +103,7 @@ fn sure_of(far: u64, count: usize) -> usize
 }
 
 /// Whether a byte ends a line.
-fn ends_line(byte: u8) -> bool
+pub(crate) fn ends_line(byte: u8) -> bool
     ensures { result ≡ is_line_end byte }
 {
     byte == b'\n' || byte == b'\r'

@@ -1,13 +1,13 @@
 //! Where a tile begins.
 
-ghost use Rattle.std.specs.Prelude.{◌≡◌, ◌≤◌, ◌⊎◌, Err, IfOk, IfSome, None, false, length, take};
+ghost use Rattle.std.specs.Prelude.{◌≡◌, ◌≤◌, ◌⊎◌, Err, IfOk, IfSome, None, false, length, take, true};
 ghost use Rattle.par_io.specs.Faults.{Rose};
-ghost use Rattle.tile_source.specs.Begins.{IsLineEnd};
+ghost use Rattle.tile_source.specs.Begins.{EndsInRecord, IsLineEnd};
 ghost use Rattle.tile_source.specs.Finding.{HasBegun, OpensAt, OpensTo};
 ghost use Rattle.tile_source.specs.declared.header.NoTile.TheVariants as no;
 
 use crate::bytes::Bytes;
-use crate::cut::Cut;
+use crate::cut::{Cut, ends_line};
 use crate::header::{NoTile, read_header};
 use crate::tile::Tile;
 use par_io::Source;
@@ -59,6 +59,10 @@ pub(crate) fn open<S: Source>(alloc: Global, source: &mut S, span: Span) -> Resu
         let ahead = Vec::from_slice(alloc, after)?;
         return Ok(tile_from(header, ahead, end as u64, span));
     }
+    let is_record = ends_in_record(&text[..end]);
+    if !is_record {
+        return Err(NoTile::NoHeader);
+    }
     let Some(line_end) = line_end(after) else {
         return Err(NoTile::NoHeader);
     };
@@ -82,6 +86,14 @@ fn tile_from(header: Vec<u8>, ahead: Vec<u8>, at: u64, span: Span) -> Opened
         lacks: 0,
     };
     Opened { tile, begin }
+}
+
+/// Whether some bytes end with one that ends no line. A text of one record that can be cut behind it, and ends so, is the only one that
+/// a source begins with.
+fn ends_in_record(bytes: &[u8]) -> bool
+    ensures { result ≡ true → EndsInRecord bytes.now }
+{
+    !bytes.is_empty() && !ends_line(bytes[bytes.len() - 1])
 }
 
 /// How many bytes the end of the header's line has, if these begin with one: a line feed, maybe after a carriage return.

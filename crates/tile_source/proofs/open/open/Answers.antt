@@ -1,6 +1,6 @@
 use Rattle.std.proofs.Common.{◌≡◌, ◌-◌, ◌∙◌, ap, arith, drop, length, refl, subst, take}
 use Rattle.std.proofs.lemmas.List.{take_rest}
-use Rattle.tile_source.specs.Begins.{IsLineEnd}
+use Rattle.tile_source.specs.Begins.{EndsInRecord, IsLineEnd}
 use Rattle.tile_source.specs.Finding.{HasBegun}
 use Rattle.tile_source.proofs.Opening.{opens-front, opens-place}
 use Rattle.tile_source.proofs.open.open.Goals as goal
@@ -26,6 +26,7 @@ returns-clause-opens g c =
     let is : c.as_slice-text.result.now ≡ text = c.as_slice-text.ensures.value in
     let front : c.in_ok-header.header.items ≡ take end text = c.in_ok-header.ensures.items ∙ ap (take end) is in
     let back : take (length c.as_slice-text.result.now - end) (drop end c.as_slice-text.result.now) ≡ after = ap (λ xs. take (length xs - end) (drop end xs)) is ∙ take_rest text end in
+    let last : EndsInRecord (take end text) = subst (λ xs. EndsInRecord (take end xs)) is (c.ends_in_record-is_record.ensures c.if-not-is_record.false) in
     let line : IsLineEnd (take n after) = subst (λ xs. IsLineEnd (take n xs)) back c.in-Some.ensures.line in
     let ahead : take (length (take (length c.as_slice-text.result.now - end) (drop end c.as_slice-text.result.now)) - n) (drop n (take (length c.as_slice-text.result.now - end) (drop end c.as_slice-text.result.now))) ≡ drop n after =
     ap (λ xs. take (length xs - n) (drop n xs)) back ∙ take_rest after n in
@@ -36,4 +37,4 @@ returns-clause-opens g c =
     let begun : HasBegun (drop n after) mid new c.args.span.from at rest = subst (λ xs. HasBegun xs mid new c.args.span.from at rest) ahead
     (subst (λ k. HasBegun (take (length (take (length c.as_slice-text.result.now - end) (drop end c.as_slice-text.result.now)) - n) (drop n (take (length c.as_slice-text.result.now - end) (drop end c.as_slice-text.result.now)))) mid new k at rest) (ap (λ q. q.at) c.new-begin.ensures) c.in_ok-ahead-2.ensures.begun) in
     opens-place c.args.span c.tile_from-2.result.begin c.tile_from-2.result.tile text c.in_ok-header.header.items after rest end n at (left c.args.source.now) mid new
-    (omega (arith, c.if-span-eq0.false)) c.in_ok-headed.ensures.headed c.in_ok-headed.ensures.read front refl line begun c.tile_from-2.ensures
+    (omega (arith, c.if-span-eq0.false)) c.in_ok-headed.ensures.headed c.in_ok-headed.ensures.read front refl last line begun c.tile_from-2.ensures
