@@ -20,6 +20,7 @@ use std::env::Env;
 use std::io::ErrorKind;
 use std::process::ExitCode;
 use std::{env, io};
+use tile_source::TileSource;
 
 /// The words after the program's name; none of them if one is not UTF-8.
 fn words(rt: &HostRuntime) -> io::Result<Option<Vec<String>>> {
@@ -63,10 +64,11 @@ fn main(rt: HostRuntime) -> ExitCode {
         return ExitCode::from(status);
     }
     if let Some(asked) = part_words(words.as_slice()) {
-        let mut source = Peeked::new(StdSource::new(rt.stdin()));
-        if let Some(status) = refuse_input(&mut source, &mut err) {
+        let mut peeked = Peeked::new(StdSource::new(rt.stdin()));
+        if let Some(status) = refuse_input(&mut peeked, &mut err) {
             return ExitCode::from(status);
         }
+        let mut source = TileSource::new(peeked);
         let status = partial_states(
             &rt,
             rt.alloc(),

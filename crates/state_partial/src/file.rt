@@ -26,12 +26,13 @@ use state_writer::WriteError;
 use std::alloc::{AllocError, Global};
 use stream_groups::Stop;
 
-/// The file of a part, which is all of its source.
+/// The file of a part, which is at this place of its source. Of no bytes of a source that has some it covers nothing.
 pub(crate) fn file_of(
     alloc: Global,
     asked: &PartWords<'_>,
     plan: Plan,
     part: Part,
+    place: Place,
 ) -> Result<Vec<u8>, NoPart>
     requires ask { AskFor (asked_of asked.now).words plan }
     requires read { (from : Option (List ℕ)) × IsPartRead plan from part }
@@ -43,7 +44,7 @@ pub(crate) fn file_of(
         header,
         rows,
         map,
-        size,
+        size: _,
     } = part;
     let whole = Whole {
         words: asked.plan_words(),
@@ -57,7 +58,7 @@ pub(crate) fn file_of(
     let Ok(plan) = file_plan(alloc, plan, whole) else {
         return Err(NoPart::Stopped(Stop::Memory));
     };
-    let Ok(cover) = cover_of(alloc, asked.part.source, asked.part.sources, size, rows) else {
+    let Ok(cover) = cover_of(alloc, place, asked.part.sources, rows) else {
         return Err(NoPart::Stopped(Stop::Memory));
     };
     let head = Head {
@@ -86,12 +87,11 @@ fn all_keys<'a>() -> KeyRange<'a>
     }
 }
 
-/// The one stretch that is all bytes of a source.
+/// The one stretch at a place; none if there are no bytes, but for a source that has none.
 fn cover_of(
     alloc: Global,
-    source: u32,
+    place: Place,
     sources: u32,
-    size: u64,
     rows: Rows,
 ) -> Result<Vec<Stretch>, AllocError>
     requires below { source < sources }
@@ -101,14 +101,10 @@ fn cover_of(
     ensures cover { IfOk result (λ cover. cover.items ≡ record { place = record { source = source; from = 0; to = size; size = size }; rows = rows } ∷ []) }
 {
     let _sources = sources;
-    let place = Place {
-        source,
-        from: 0,
-        to: size,
-        size,
-    };
     let mut cover = Vec::new(alloc);
-    cover.push(Stretch { place, rows })?;
+    if place.from < place.to || place.size == 0 {
+        cover.push(Stretch { place, rows })?;
+    }
     Ok(cover)
 }
 

@@ -18,15 +18,17 @@ ghost use Rattle.stream_groups.specs.declared.stop.Stop.TheVariants as stop;
 
 use crate::file::file_of;
 use crate::no_part::{NoPart, WRITTEN};
-use crate::reading::read_part;
+use crate::reading::{Part, read_part};
 use crate::words::PartWords;
 use par_io::{Sink, Source, write_whole};
 use plan_spec::{MOST_WORKERS, Plan, PlanAnswer};
+use state_head::Place;
 use state_plan::command_words;
 use std::alloc::Global;
 use std::sync::Wait;
 use std::thread::Threads;
 use stream_groups::{Progress, Stop};
+use tile_source::{Begin, TileSource};
 
 /// The words after `partial`, if that is the first of the words after the program's name.
 pub fn part_words(words: &[String]) -> Option<&[String]>
@@ -48,7 +50,7 @@ pub fn partial_states<R: Threads + Wait + Sync, S: Source, O: Sink, E: Sink, P: 
     rt: &R,
     alloc: Global,
     words: &[String],
-    source: &mut S,
+    source: &mut TileSource<S>,
     out: &mut O,
     err: &mut E,
     window_bytes: usize,
@@ -83,7 +85,7 @@ fn write_part<R: Threads + Wait + Sync, S: Source, O: Sink, P: Progress>(
     rt: &R,
     alloc: Global,
     words: &[String],
-    source: &mut S,
+    source: &mut TileSource<S>,
     out: &mut O,
     window_bytes: usize,
     progress: &mut P,
@@ -113,7 +115,7 @@ fn make_part<R: Threads + Wait + Sync, S: Source, P: Progress>(
     rt: &R,
     alloc: Global,
     words: &[String],
-    source: &mut S,
+    source: &mut TileSource<S>,
     window_bytes: usize,
     progress: &mut P,
 ) -> Result<Vec<u8>, NoPart>
@@ -137,7 +139,7 @@ fn make_asked<R: Threads + Wait + Sync, S: Source, P: Progress>(
     rt: &R,
     alloc: Global,
     asked: &PartWords<'_>,
-    source: &mut S,
+    source: &mut TileSource<S>,
     window_bytes: usize,
     progress: &mut P,
 ) -> Result<Vec<u8>, NoPart>
@@ -152,7 +154,11 @@ fn make_asked<R: Threads + Wait + Sync, S: Source, P: Progress>(
         Ok(plan) => plan,
         Err(why) => return Err(why),
     };
-    match read_part(
+    let begin = match begin_of(alloc, asked, source) {
+        Ok(begin) => begin,
+        Err(why) => return Err(why),
+    };
+    let part = match read_part(
         rt,
         alloc,
         &plan,
@@ -161,9 +167,55 @@ fn make_asked<R: Threads + Wait + Sync, S: Source, P: Progress>(
         window_bytes,
         progress,
     ) {
-        Ok(part) => file_of(alloc, asked, plan, part),
-        Err(stop) => Err(NoPart::Stopped(stop)),
+        Ok(part) => part,
+        Err(Stop::ReadFault) if source.is_short() => return Err(NoPart::Short),
+        Err(stop) => return Err(NoPart::Stopped(stop)),
+    };
+    match place_of(asked, begin, &part) {
+        Some(place) => file_of(alloc, asked, plan, part, place),
+        None => Err(NoPart::Grown),
     }
+}
+
+/// Where the bytes that are asked for begin, of a source of which nothing was read: at its front, if they are all.
+fn begin_of<S: Source>(
+    alloc: Global,
+    asked: &PartWords<'_>,
+    source: &mut TileSource<S>,
+) -> Result<Begin, NoPart> {
+    match asked.span {
+        None => Ok(Begin { header: 0, at: 0 }),
+        Some(span) => source
+            .begin(alloc, span)
+            .map_err(|why| NoPart::of_tile(why)),
+    }
+}
+
+/// The place of a part that begins here: all of its source, or what was read of it after the header. None if that is not within the
+/// size that is said.
+fn place_of(asked: &PartWords<'_>, begin: Begin, part: &Part) -> Option<Place> {
+    let source = asked.part.source;
+    let Some(span) = asked.span else {
+        return Some(Place {
+            source,
+            from: 0,
+            to: part.size,
+            size: part.size,
+        });
+    };
+    let to = begin
+        .at
+        .saturating_add(part.size.saturating_sub(begin.header));
+    if to > span.size {
+        return None;
+    }
+    let from = if span.from == 0 { 0 } else { begin.at };
+    Some(Place {
+        source,
+        from,
+        to,
+        size: span.size,
+    })
 }
 
 /// The plan that is asked for.

@@ -1,4 +1,4 @@
-//! The words of `partial`: the options of a plan, and which of how many sources the part is.
+//! The words of `partial`: the options of a plan, which of how many sources the part is of, and which bytes of that source.
 //!
 //! They are read by the crate `clap`, as parstream's words are (`plan_spec`), so an option is written in each way that it has there.
 
@@ -16,12 +16,16 @@ use plan_spec::{MOST_WORKERS, number};
 use state_file::push_text;
 use state_head::PlanWords;
 use std::alloc::{AllocError, Global};
+use tile_source::Span;
 
 /// The most sources.
 const MOST_SOURCES: u32 = 65_536;
 
 /// The number of workers if the words ask for none.
 const WORKERS: u32 = 2;
+
+/// A place in a source has at most 18 digits. A number from this on has no room for another digit.
+const FULL_PLACE: u64 = 100_000_000_000_000_000;
 
 /// The values of the options, each as it was given. Those of `--where` are texts one after another.
 #[derive(Drop)]
@@ -32,6 +36,8 @@ pub(crate) struct Given<'a> {
     filters: Vec<u8>,
     workers: Option<&'a str>,
     source: Option<&'a str>,
+    bytes: Option<&'a str>,
+    size: Option<&'a str>,
 }
 
 /// What the words ask for. The text of an option that was not given is empty.
@@ -43,6 +49,8 @@ pub(crate) struct PartWords<'a> {
     filters: Vec<u8>,
     pub(crate) workers: u32,
     pub(crate) part: SourcePart,
+    /// The bytes of the source; none if they are all.
+    pub(crate) span: Option<Span>,
 }
 
 /// A source, and how many there are.
@@ -82,12 +90,19 @@ impl<'a> PartWords<'a> {
             filters,
             workers,
             source,
+            bytes,
+            size,
         } = given;
         let group = text_given(group)?;
         let agg = text_given(agg)?;
         let decimals = text_given(decimals)?;
         let workers = workers_given(workers)?;
         let part = source_given(source)?;
+        let span = match (bytes, size) {
+            (None, None) => None,
+            (Some(bytes), Some(size)) => Some(span_of(bytes, size)?),
+            _ => return None,
+        };
         Some(PartWords {
             group,
             agg,
@@ -95,6 +110,7 @@ impl<'a> PartWords<'a> {
             filters,
             workers,
             part,
+            span,
         })
     }
 
@@ -162,6 +178,43 @@ fn source_of(text: &str) -> Option<SourcePart>
     }
 }
 
+/// The bytes that are asked for by `FROM-TO`, or by `FROM` up to the end, of a source of so many bytes.
+fn span_of(bytes: &str, size: &str) -> Option<Span> {
+    let size = place_of(size)?;
+    let span = match bytes.split_once('-') {
+        Some((from, to)) => Span {
+            from: place_of(from)?,
+            to: place_of(to)?,
+            size,
+        },
+        None => Span {
+            from: place_of(bytes)?,
+            to: u64::MAX,
+            size,
+        },
+    };
+    if span.from > size || span.to < span.from {
+        return None;
+    }
+    Some(span)
+}
+
+/// The place in a source that a text says, in digits.
+fn place_of(text: &str) -> Option<u64> {
+    let digits = text.as_bytes();
+    if digits.is_empty() {
+        return None;
+    }
+    let mut value: u64 = 0;
+    'digits: for digit in digits {
+        if !digit.is_ascii_digit() || value >= FULL_PLACE {
+            return None;
+        }
+        value = value * 10 + u64::from(*digit - b'0');
+    }
+    Some(value)
+}
+
 /// What the words give for each option, if they are such a command line.
 fn given_values<'a>(alloc: Global, words: &'a [String]) -> Result<Option<Given<'a>>, AllocError>
     ensures none { IfOk result (λ found. found ≡ None → is_command_line partial_command (texts words.now) ≡ false) }
@@ -186,6 +239,8 @@ fn given_values<'a>(alloc: Global, words: &'a [String]) -> Result<Option<Given<'
         filters,
         workers: matches.get_str("workers"),
         source: matches.get_str("source"),
+        bytes: matches.get_str("bytes"),
+        size: matches.get_str("size"),
     }))
 }
 
@@ -217,12 +272,14 @@ fn matches_in<'a>(
     }
 }
 
-/// The command: the options of a plan, and which source.
+/// The command: the options of a plan, which source, and which of its bytes.
 fn partial<'a>(alloc: Global) -> Result<Command<'a>, AllocError>
     ensures { IfOk result (λ c. app_of c ≡ partial_command) }
 {
     let plan = plan_options(alloc)?;
-    with_option(alloc, plan, "source", false)
+    let sourced = with_option(alloc, plan, "source", false)?;
+    let cut = with_option(alloc, sourced, "bytes", false)?;
+    with_option(alloc, cut, "size", false)
 }
 
 /// A command with the five options of parstream, of which `--where` may be repeated.
