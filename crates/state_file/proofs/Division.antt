@@ -26,7 +26,7 @@ step h t s few =
     ∙ ap (λ (n : ℕ). bit_xor h (divided (bit_xor t s % 2) n)) (sym half)
 
 -- the bits above the first k only move down
-split : (k h l : ℕ) → l < 2 ^ k → shifted_by k (h * 2 ^ k + l) ≡ bit_xor h (shifted_by k l)
+pub split : (k h l : ℕ) → l < 2 ^ k → shifted_by k (h * 2 ^ k + l) ≡ bit_xor h (shifted_by k l)
 unfolding shifted_by
 split zero h l few = let whole : h * 1 + l ≡ h = omega arith in let none : 0 ≡ l = omega arith in whole ∙ sym (xor_zero_r h) ∙ ap (bit_xor h) none
 split (suc k) h l few =

@@ -1,4 +1,5 @@
 pub mod Checksum
 pub mod Number
 pub mod Section
+pub mod Slices
 pub mod Text

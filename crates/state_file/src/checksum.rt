@@ -1,10 +1,15 @@
 //! CRC-32C, which tells accidents: bytes that were lost or changed on their way. It is no proof against forgery.
 //!
 //! The definition divides bit by bit. `TABLE` has what eight such steps make of each byte, so that a byte costs one
-//! look-up; the proof of `taken_in` shows that this is the same.
+//! look-up; the proof of `taken_in` shows that this is the same. Many bytes are taken in by eights.
 
-ghost use Rattle.std.specs.Prelude.{◌≡◌};
+ghost use Rattle.std.specs.Prelude.{◌≡◌, fold};
 ghost use Rattle.state_file.specs.Checksum.{crc32c, taken_in};
+
+use crate::eights::{slices, take_eights};
+
+/// From how many bytes on it is faster to make tables for eight bytes first.
+const MANY: usize = 4096;
 
 /// The register after eight bits, for each byte that it can begin with.
 const TABLE: [u32; 256] = [
@@ -270,15 +275,26 @@ const TABLE: [u32; 256] = [
 pub fn crc32c(bytes: &[u8]) -> u32
     ensures { result ≡ crc32c bytes.now }
 {
-    let mut register = u32::MAX;
+    if bytes.len() < MANY {
+        !take_each(u32::MAX, bytes)
+    } else {
+        !take_eights(&slices(), u32::MAX, bytes)
+    }
+}
+
+/// The register after some bytes, one by one.
+pub(crate) fn take_each(start: u32, bytes: &[u8]) -> u32
+    ensures { result ≡ fold taken_in start bytes.now }
+{
+    let mut register = start;
     for byte in bytes {
         register = taken_in(register, *byte);
     }
-    !register
+    register
 }
 
 /// The register after one more byte.
-fn taken_in(register: u32, byte: u8) -> u32
+pub(crate) fn taken_in(register: u32, byte: u8) -> u32
     ensures { result ≡ taken_in register byte }
 {
     let place = (register ^ u32::from(byte)) % 256;

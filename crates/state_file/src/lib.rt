@@ -3,6 +3,7 @@
 #![tactic(auto)]
 
 mod checksum;
+mod eights;
 mod front;
 mod number;
 mod section;

@@ -1,6 +1,0 @@
-use Rattle.std.proofs.Common.{◌≡◌, ◌-◌, ◌^◌, fold, take}
-use Rattle.state_file.specs.Checksum.{taken_in}
-use Rattle.state_file.proofs.checksum.crc32c.Given as goal
-
-abbrev pub invariant-loop-byte : goal.invariant-loop-byte
-invariant-loop-byte l = l.register ≡ fold taken_in (2 ^ 32 - 1) (take l.byte-index l.bytes)
