@@ -68,7 +68,7 @@ all_rise plan [] (run ∷ runs) are = absurd are
 all_rise plan (m ∷ maps) [] are = absurd are
 all_rise plan (m ∷ maps) (run ∷ runs) are = All-cons (Rise (length plan.groups)) run runs are.0.rises (all_rise plan maps runs are.1)
 
-own_lists : (maps : List GroupsByKey) → AreListings maps (map listed maps)
+pub own_lists : (maps : List GroupsByKey) → AreListings maps (map listed maps)
 own_lists [] = tt
 own_lists (m ∷ maps) = (IsPermutation-refl (listed m), own_lists maps)
 

@@ -5,12 +5,12 @@ use Rattle.std.proofs.lemmas.List.{get_or-map, length-append, length-map, map-ap
 use Rattle.csv.specs.Records.{cut_from, prev}
 use Rattle.csv.proofs.RecordFacts.{cut-length, field-bounds, field-cut, field-get}
 use Rattle.csv_rows.specs.Store.{Covers}
-use Rattle.csv_rows.proofs.Groups.{covers-more, cut-push}
+use Rattle.csv_rows.proofs.Groups.{covers-more, covers-none, cut-push}
 use Rattle.par_model.specs.Plan.{Plan}
 use Rattle.partial_agg.specs.declared.groups.Group.{Group}
 use Rattle.result_text.specs.GroupOrder.{group_of}
 use Rattle.result_text.specs.declared.order.GroupRef.{GroupRef}
-use Rattle.line_runs.specs.Entries.{Entry, entry_bytes, entry_in, entry_of, line_of, no_entry}
+use Rattle.line_runs.specs.Entries.{Entry, entry_bytes, entry_in, entry_of, line_of, no_entry, whole_entry}
 
 -- ---- where an entry lies
 
@@ -34,6 +34,27 @@ entry-there bytes ends run at is covers lt =
       within = b.1;
       value = ap (λ (es : List Entry). get_or es at no_entry) (sym is) ∙ get_or-map entry_in (cut_from 0 ends bytes) at [] no_entry here ∙ ap entry_in (field-get (cut_from 0 ends bytes) at _ (field-cut 0 ends bytes at there));
     }
+
+-- ---- none
+
+pub none_covers : (bytes ends : List ℕ) → bytes ≡ [] → ends ≡ [] → Covers ends (length bytes)
+none_covers bytes ends b e = subst (λ (es : List ℕ). Covers es (length bytes)) (sym e) (subst (λ (bs : List ℕ). Covers [] (length bs)) (sym b) covers-none)
+
+pub none_there : (bytes ends : List ℕ) → ends ≡ [] → map entry_in (cut_from 0 ends bytes) ≡ []
+unfolding cut_from
+none_there bytes ends e = ap (λ (es : List ℕ). map entry_in (cut_from 0 es bytes)) e
+
+-- ---- an entry after others
+
+pub covers_ended : (bytes ends front entry : List ℕ) → Covers ends (length front) → bytes ≡ front ++ entry → Covers (ends ++ length bytes ∷ []) (length bytes)
+covers_ended bytes ends front entry covers is = covers-more ends (length front) (length bytes) covers (omega (arith, ap (length {A = ℕ}) is, length-append front entry))
+
+pub run_ended : (bytes ends front entry : List ℕ) → Covers ends (length front) → bytes ≡ front ++ entry → map entry_in (cut_from 0 (ends ++ length bytes ∷ []) bytes) ≡ map entry_in (cut_from 0 ends front) ++ entry_in entry ∷ []
+run_ended bytes ends front entry covers is = (λ i. map entry_in (cut_from 0 (ends ++ length (is i) ∷ []) (is i))) ∙ ap (map entry_in) (cut-push ends front entry covers) ∙ map-append entry_in (cut_from 0 ends front) (entry ∷ [])
+
+-- an entry is read as what it was made of
+pub whole_back : (key line : List ℕ) → entry_in (whole_entry key line) ≡ (key, line)
+whole_back key line = λ i. (take-append_seam key line i, drop-append_seam key line i)
 
 -- ---- entries as bytes
 

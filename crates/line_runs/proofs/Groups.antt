@@ -27,7 +27,8 @@ use Rattle.line_runs.specs.Entries.{Entry, entry_of}
 use Rattle.line_runs.specs.Ranges.{entries_of, is_of, range_of}
 use Rattle.line_runs.specs.Runs.{AreRunsOf}
 use Rattle.line_runs.specs.declared.ranges.Ranges.{Ranges}
-use Rattle.line_runs.proofs.Lines.{flips, key_of_group}
+use Rattle.line_runs.proofs.Lines.{key_of_group}
+use Rattle.line_runs.proofs.Strict.{flips}
 
 -- the groups of a range in all maps, map by map
 abbrev pub groups_of : (List ℕ → ℕ) → ℕ → List GroupsByKey → List Group

@@ -7,5 +7,8 @@ mod Stretches
 mod Places
 mod Entries
 mod Groups
-mod Lines
+pub mod Lines
+pub mod Strict
 mod Answering
+mod Together
+pub mod AllGroups

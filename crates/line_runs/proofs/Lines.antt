@@ -1,19 +1,13 @@
 -- The run of a map, and the lines of sorted entries.
-use Rattle.std.proofs.Common.{◌≡◌, ◌<◌, ◌≤◌, ◌+◌, ◌++◌, ◌∷◌, ◌∙◌, [], ap, sym, refl, subst, arith, Bool, false, bytes_eq, length, ℕ, zero, suc, List, All, get_or, map, set}
+use Rattle.std.proofs.Common.{◌≡◌, ◌<◌, ◌≤◌, ◌+◌, ◌++◌, ◌∷◌, ◌∙◌, [], ap, sym, refl, subst, arith, Bool, bytes_eq, length, ℕ, zero, suc, List, All, get_or, map, set}
 use Rattle.std.proofs.lemmas.List.{get_or-map, length-map}
 use Rattle.std.proofs.lemmas.List.Elements.{All-head, All-tail}
 use Rattle.std.proofs.lemmas.List.Sorted.{All-permutation, IsPermutation-keeps, IsPermutation-map, IsPermutation-refl, IsPermutation-swap, IsPermutation-trans}
-use Rattle.std.proofs.lemmas.Map.Keys.{IsDistinct-IsPermutation, apart_from_distinct, sorted_from_all_adjacent}
+use Rattle.std.proofs.lemmas.Map.Keys.{IsDistinct-IsPermutation}
 use Rattle.std.proofs.lemmas.Simd.{map-map}
-use Rattle.std.proofs.lemmas.Slice.Eq.{bytes_eq-Decides}
-use Rattle.std.specs.Cmp.{IsTotalOrder, both_ways}
-use Rattle.std.specs.FinMap.{nat_cmp-IsAntisymmetric, slice_cmp-IsAntisymmetric}
 use Rattle.std.specs.List.{IsDistinct, concat, swap}
 use Rattle.std.specs.List.Sorted.{IsPermutation, IsSortedBy, IsStrictlySortedBy}
-use Rattle.std.specs.Ordering.{is_lt, ordering_reverse}
-use Rattle.std.specs.declared.cmp.Ordering.{Ordering}
-use Rattle.std.specs.declared.cmp.Ordering.TheVariants.{Equal, Greater, Less}
-use Rattle.par_model.specs.Key.{encoded}
+use Rattle.std.specs.Ordering.{is_lt}
 use Rattle.par_model.specs.Plan.{Plan}
 use Rattle.par_model.specs.Table.{columns_cmp, table_text}
 use Rattle.partial_agg.specs.declared.groups.Group.{Group}
@@ -22,12 +16,12 @@ use Rattle.result_text.specs.KeyColumns.{columns_in}
 use Rattle.result_text.specs.Printable.{ArePrintable, IsKeyOf}
 use Rattle.result_text.specs.Text.{AreLinesOf, Line, group_of_line, line_record}
 use Rattle.result_text.specs.declared.order.GroupRef.{GroupRef}
-use Rattle.result_text.proofs.Columns.{columns_total}
 use Rattle.result_text.proofs.KeyColumns.{encoded-columns_in}
 use Rattle.result_text.proofs.Sorting.{all_read, all_refs, rising, IsRead}
 use Rattle.result_text.proofs.Tables.{table_text-cons, table_text-nil}
 use Rattle.line_runs.specs.Entries.{Entry, comes_before, entry_of, no_entry}
 use Rattle.line_runs.specs.Runs.{IsRunOf}
+use Rattle.line_runs.proofs.Strict.{flips, rising_by}
 
 -- ---- the run of a map
 
@@ -86,27 +80,7 @@ moved_back {X = X} {Y = Y} f xs ys same = IsPermutation-keeps (map f xs) (Moved 
           is = ap (λ ys. swap ys i j) m.is ∙ sym (map_swap f m.moved i j h' k');
         }
 
--- ---- groups in the order of their columns, none of which has the key of another
-
--- of an order that is total: what is not before another and not equal to it comes after it
-after : {K : Type 0} (R : K → K → Ordering) → IsTotalOrder R → (x y : K) → is_lt (R y x) ≡ false → (R x y ≡ Equal → ⊥) → R x y ≡ Less
-after R total x y not_before other = by (R x y) (R y x) refl refl (total.antisymm x y)
-  where
-    by : (r s : Ordering) → R x y ≡ r → R y x ≡ s → R x y ≡ ordering_reverse (R y x) → R x y ≡ Less
-    by Less s e f h = e
-    by Equal s e f h = absurd (other e)
-    by Greater Less e f h = cc (rw f at not_before)
-    by Greater Equal e f h = cc (rw f at h)
-    by Greater Greater e f h = rw f at h
-
-same_columns : (a b : List (List ℕ)) → columns_cmp a b ≡ Equal → a ≡ b
-same_columns = slice_cmp-IsAntisymmetric (slice_cmp-IsAntisymmetric nat_cmp-IsAntisymmetric)
-
-false-from : (a b : List ℕ) → a ≡ b → bytes_eq a b ≡ false → ⊥
-false-from a b is apart = let yes = (bytes_eq-Decides a b).1 is in cc
-
-pub flips : (a b : List ℕ) → bytes_eq a b ≡ bytes_eq b a
-flips a b = both_ways (bytes_eq a b) (bytes_eq b a) (λ e. (bytes_eq-Decides b a).1 (sym ((bytes_eq-Decides a b).0 e))) (λ e. (bytes_eq-Decides a b).1 (sym ((bytes_eq-Decides b a).0 e)))
+-- ---- groups in the order of their columns
 
 abbrev pub key_of_group : Group → List ℕ
 key_of_group group = group.key
@@ -117,29 +91,6 @@ columns_of_group count group = columns_in count group.key
 -- whether a group comes before another
 abbrev group_before : ℕ → Group → Group → Bool
 group_before count a b = is_lt (columns_cmp (columns_of_group count a) (columns_of_group count b))
-
-rises-at : (count : ℕ) (a b : Group) → IsRead count a → IsRead count b → bytes_eq a.key b.key ≡ false → group_before count b a ≡ false → columns_cmp (columns_of_group count a) (columns_of_group count b) ≡ Less
-rises-at count a b read_a read_b apart not_before =
-    after columns_cmp columns_total (columns_of_group count a) (columns_of_group count b) not_before (λ tie.
-    false-from a.key b.key (sym read_a ∙ ap encoded (same_columns (columns_of_group count a) (columns_of_group count b) tie) ∙ read_b) apart)
-
-rising-from : (count : ℕ) (groups : List Group) (d : Group) → IsDistinct bytes_eq (map key_of_group groups) → All (IsRead count) groups → IsSortedBy (group_before count) groups
-    → IsStrictlySortedBy columns_cmp (map (columns_of_group count) groups)
-rising-from count groups d different read sorted =
-    let long : length (map (columns_of_group count) groups) ≡ length groups = length-map groups (columns_of_group count) in
-    let long_keys : length (map key_of_group groups) ≡ length groups = length-map groups key_of_group in
-    sorted_from_all_adjacent columns_total _ (columns_of_group count d) (λ k lt.
-    let here : k < length groups = omega (arith, lt, long) in
-    let next : k + 1 < length groups = omega (arith, lt, long) in
-    let apart = apart_from_distinct bytes_eq (map key_of_group groups) k (k + 1) d.key different (omega arith) (omega (arith, next, long_keys)) in
-    let keys_apart : bytes_eq (get_or groups k d).key (get_or groups (k + 1) d).key ≡ false = rw (get_or-map key_of_group groups k d d.key here, get_or-map key_of_group groups (k + 1) d d.key next) at apart in
-    rw (get_or-map (columns_of_group count) groups k d (columns_of_group count d) here, get_or-map (columns_of_group count) groups (k + 1) d (columns_of_group count d) next)
-    (rises-at count (get_or groups k d) (get_or groups (k + 1) d) (read k d here) (read (k + 1) d next) keys_apart (sorted k d (omega arith) next)))
-
-rising_groups : (count : ℕ) (groups : List Group) → IsDistinct bytes_eq (map key_of_group groups) → All (IsRead count) groups → IsSortedBy (group_before count) groups → IsStrictlySortedBy columns_cmp (map (columns_of_group count) groups)
-unfolding IsStrictlySortedBy
-rising_groups count [] different read sorted = tt
-rising_groups count (g ∷ groups) different read sorted = rising-from count (g ∷ groups) g different read sorted
 
 -- ---- the lines of sorted entries
 
@@ -177,7 +128,7 @@ sorted_lines plan groups entries text short keys different same sorted is =
     record {
       lines = map (line_of_group count) news;
       short = short;
-      rising = subst (IsStrictlySortedBy columns_cmp) (sym (map-map (λ (l : Line). l.0) (line_of_group count) news)) (rising_groups count news apart read order);
+      rising = subst (IsStrictlySortedBy columns_cmp) (sym (map-map (λ (l : Line). l.0) (line_of_group count) news)) (rising_by key_of_group count news apart read order);
       same = subst (IsPermutation groups) (sym (lines_groups count news read)) m.same;
       is = is ∙ ap (λ (es : List Entry). concat (map (λ (e : Entry). e.1) es)) m.is ∙ text_is plan news;
     }

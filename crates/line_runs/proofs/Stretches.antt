@@ -40,3 +40,9 @@ text_more runs lines at d old new lt is grown =
     grown ∙ ap (λ (t : List ℕ). t ++ (entry_at runs own).1) is
     ∙ ap (λ (t : List ℕ). concat (texts (take at lines)) ++ t) (sym (append-nil (entry_at runs own).1))
     ∙ sym (ap concat parts ∙ concat-append (texts (take at lines)) ((entry_at runs own).1 ∷ []))
+
+-- one line more of a run of lines
+pub run_more : (runs : List (List Entry)) (lines : List LineRef) (at : ℕ) (d : LineRef) (run new : List Entry) (entry : Entry) → at < length lines → run ≡ map (entry_at runs) (take at lines) → new ≡ run ++ entry ∷ [] → entry ≡ entry_at runs (get_or lines at d)
+    → new ≡ map (entry_at runs) (take (at + 1) lines)
+run_more runs lines at d run new entry lt is grown same =
+    grown ∙ (λ i. is i ++ same i ∷ []) ∙ sym (ap (map (entry_at runs)) (take_more lines at d lt) ∙ map-append (entry_at runs) (take at lines) (get_or lines at d ∷ []))

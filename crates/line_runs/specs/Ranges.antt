@@ -7,7 +7,7 @@ use Rattle.std.specs.Ordering.{is_lt}
 use Rattle.std.specs.declared.alloc.AllocError.{AllocError}
 use Rattle.par_model.specs.Table.{columns_cmp}
 use Rattle.result_text.specs.KeyColumns.{columns_in}
-use Rattle.line_runs.specs.Entries.{Entry, comes_before, no_entry}
+use Rattle.line_runs.specs.Entries.{Entry, all_entries, comes_before, no_entry}
 use Rattle.line_runs.specs.declared.ranges.Ranges.{Ranges}
 use Rattle.line_runs.specs.declared.ranges.TheConstants.{SAMPLE}
 
@@ -58,6 +58,21 @@ is_of r range entry = range_of r entry.0 == range
 -- the entries of a range in some runs
 abbrev pub entries_of : Ranges → List (List Entry) → ℕ → List Entry
 entries_of r runs range = flat_map (λ run. filter (is_of r range) run) runs
+
+-- a run has the lines of a range, in the order of the table
+pub record IsRangeRun (r : Ranges) (runs : List (List Entry)) (range : ℕ) (run : List Entry) : Type 0 where
+  pub same : IsPermutation (entries_of r runs range) run
+  pub sorted : IsSortedBy (comes_before r.columns) run
+
+-- runs have the lines of each range, if there was memory for them
+pub record AreRangeRuns (r : Ranges) (runs : List (List Entry)) (count : ℕ) (made : List (Result (List Entry) AllocError)) : Type 0 where
+  pub many : length made ≡ count
+  pub each : (k : ℕ) (d : Result (List Entry) AllocError) → k < length made → IfOk (slice_index_or made k d) (IsRangeRun r runs k)
+
+-- other runs have the lines of some, in the order of the table, one run after another
+pub record AreInOrder (columns : ℕ) (runs others : List (List Entry)) : Type 0 where
+  pub same : IsPermutation (all_entries runs) (all_entries others)
+  pub sorted : IsSortedBy (comes_before columns) (all_entries others)
 
 -- a text has the lines of a range, in the order of the table
 pub record IsRangeText (r : Ranges) (runs : List (List Entry)) (range : ℕ) (text : List ℕ) : Type 0 where

@@ -10,6 +10,9 @@
 mod order;
 mod ranges;
 mod run;
+mod sorted;
 mod texts;
 
+pub use run::Run;
+pub use sorted::sorted_runs;
 pub use texts::table_of_parts;

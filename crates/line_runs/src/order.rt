@@ -10,7 +10,7 @@ ghost use Rattle.std.specs.Ordering.{nat_cmp, ordering_then};
 ghost use Rattle.par_model.specs.Table.{columns_cmp};
 ghost use Rattle.key_index.specs.Front.{AllBytes, leading};
 ghost use Rattle.result_text.specs.KeyColumns.{first_size};
-ghost use Rattle.line_runs.specs.Entries.{comes_before};
+ghost use Rattle.line_runs.specs.Entries.{comes_before, entry_in};
 ghost use Rattle.line_runs.specs.Order.{AreNumbered, IsNumbered, IsNumberOf, IsWhole, columns_at, entry_at, place_of};
 
 use crate::run::Run;
@@ -44,6 +44,18 @@ impl LineRef {
         let run = self.run as usize;
         if run < runs.len() {
             runs[run].key(self.at as usize)
+        } else {
+            &[]
+        }
+    }
+
+    /// Its key and line as bytes of an entry, and no bytes if there is no such line.
+    pub(crate) fn entry<'a>(&self, runs: &'a [Run]) -> &'a [u8]
+        ensures { entry_in result.now ≡ entry_at runs.now self.now }
+    {
+        let run = self.run as usize;
+        if run < runs.len() {
+            runs[run].entry(self.at as usize)
         } else {
             &[]
         }
@@ -190,7 +202,7 @@ fn sort_numbered(lines: &mut [LineRef], runs: &[Run], columns: u32)
 }
 
 /// Puts lines in the order of the table, by their keys.
-fn sort_by_keys(lines: &mut [LineRef], runs: &[Run], columns: u32)
+pub(crate) fn sort_by_keys(lines: &mut [LineRef], runs: &[Run], columns: u32)
     ensures same { IsPermutation lines.old lines.new }
     ensures sorted { IsSortedBy (comes_before columns) (map_list (entry_at runs.now) lines.new) }
 {

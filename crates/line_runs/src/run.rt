@@ -1,13 +1,13 @@
 //! The lines of one map, in the order of the table.
 
-ghost use Rattle.std.specs.Prelude.{◌≡◌, ◌<◌, ◌≤◌, ◌++◌, All, IfOk, OnOk, get_or, length, map as map_list};
+ghost use Rattle.std.specs.Prelude.{◌≡◌, ◌<◌, ◌≤◌, ◌++◌, ◌∷◌, [], ℕ, All, IfOk, List, OnOk, get_or, length, map as map_list};
 ghost use Rattle.csv.specs.Records.{cut_from, prev};
 ghost use Rattle.csv_rows.specs.Store.{Covers};
 ghost use Rattle.par_model.specs.Refuse.{longest_key};
 ghost use Rattle.partial_agg.specs.Listed.{listed};
 ghost use Rattle.result_text.specs.GroupOrder.{group_of};
 ghost use Rattle.result_text.specs.Printable.{ArePrintable, IsSmallSlot};
-ghost use Rattle.line_runs.specs.Entries.{entry_bytes, entry_in, entry_of, no_entry};
+ghost use Rattle.line_runs.specs.Entries.{entry_bytes, entry_in, entry_of, no_entry, whole_entry};
 ghost use Rattle.line_runs.specs.Runs.{IsRunOf};
 
 use par_model::{AggState, BoundPlan};
@@ -18,7 +18,7 @@ use std::marker::Model;
 
 /// Lines, each after its key. The key has its length before it, in one byte.
 #[derive(Drop)]
-pub(crate) struct Run {
+pub struct Run {
     bytes: Vec<u8>,
     ends: Vec<usize>,
 }
@@ -79,15 +79,52 @@ impl Run {
         Run { bytes, ends }
     }
 
+    /// No lines, and room for so many, which have so many bytes with their keys.
+    pub fn with_capacity(alloc: Global, lines: usize, bytes: usize) -> Result<Run, AllocError>
+        ensures { IfOk result (λ run. run ≡ []) }
+    {
+        let bytes = Vec::with_capacity(alloc, bytes)?;
+        let ends = Vec::with_capacity(alloc, lines)?;
+        Ok(Run::of(bytes, ends))
+    }
+
+    /// The run with a line more, after its key, at the end.
+    pub fn push(self, key: &[u8], line: &[u8]) -> Result<Run, AllocError>
+        requires { length key.now ≤ longest_key }
+        ensures { IfOk result (λ run. run ≡ self ++ (key.now, line.now) ∷ []) }
+    {
+        let Run { mut bytes, ends } = self;
+        put_entry(&mut bytes, key, line)?;
+        Run::ended(bytes, ends)
+    }
+
+    /// The run with an entry more at the end, which is given as its bytes.
+    pub(crate) fn push_entry(self, entry: &[u8]) -> Result<Run, AllocError>
+        ensures { IfOk result (λ run. run ≡ self ++ entry_in entry.now ∷ []) }
+    {
+        let Run { mut bytes, ends } = self;
+        bytes.extend_from_slice(entry)?;
+        Run::ended(bytes, ends)
+    }
+
+    /// The lines that end at one of these places, and one that comes after them in the bytes.
+    fn ended(bytes: Vec<u8>, mut ends: Vec<usize>) -> Result<Run, AllocError>
+        requires { (front : List ℕ) × (entry : List ℕ) × Covers ends.items (length front) × (bytes.items ≡ front ++ entry) }
+        ensures { IfOk result (λ run. (front entry : List ℕ) → Covers ends.items (length front) → bytes.items ≡ front ++ entry → run ≡ map_list entry_in (cut_from 0 ends.items front) ++ entry_in entry ∷ []) }
+    {
+        ends.push(bytes.len())?;
+        Ok(Run::of(bytes, ends))
+    }
+
     /// The number of lines.
-    pub(crate) fn len(&self) -> usize
+    pub fn len(&self) -> usize
         ensures { result ≡ length self.now }
     {
         self.ends.len()
     }
 
     /// The key of the line at a place, and no bytes if there is no line.
-    pub(crate) fn key(&self, at: usize) -> &[u8]
+    pub fn key(&self, at: usize) -> &[u8]
         ensures { result.now ≡ (get_or self.now at no_entry).0 }
     {
         let (key, _line) = self.split(at);
@@ -95,7 +132,7 @@ impl Run {
     }
 
     /// The line at a place, and no bytes if there is none.
-    pub(crate) fn line(&self, at: usize) -> &[u8]
+    pub fn line(&self, at: usize) -> &[u8]
         ensures { result.now ≡ (get_or self.now at no_entry).1 }
     {
         let (_key, line) = self.split(at);
@@ -107,11 +144,18 @@ impl Run {
         ensures key { result.0.now ≡ (get_or self.now at no_entry).0 }
         ensures line { result.1.now ≡ (get_or self.now at no_entry).1 }
     {
+        split_entry(self.entry(at))
+    }
+
+    /// The entry at a place as bytes, and no bytes if there is none.
+    pub(crate) fn entry(&self, at: usize) -> &[u8]
+        ensures { entry_in result.now ≡ get_or self.now at no_entry }
+    {
         if at >= self.len() {
-            return (&[], &[]);
+            return &[];
         }
         let (start, end) = span(&self.ends, at);
-        split_entry(&self.bytes.as_slice()[start..end])
+        &self.bytes.as_slice()[start..end]
     }
 
     /// About how many bytes the lines from one place on to another have, with their keys. It only says how much memory to take.
@@ -154,6 +198,17 @@ fn split_entry(bytes: &[u8]) -> (&[u8], &[u8])
         return (&[], &[]);
     };
     rest.split_at((*size as usize).min(rest.len()))
+}
+
+/// Puts an entry at the end of others.
+fn put_entry(bytes: &mut Vec<u8>, key: &[u8], line: &[u8]) -> Result<(), AllocError>
+    requires { length key.now ≤ longest_key }
+    ensures { OnOk result (bytes.new.items ≡ bytes.old.items ++ whole_entry key.now line.now) }
+{
+    bytes.push(key.len() as u8)?;
+    bytes.extend_from_slice(key)?;
+    bytes.extend_from_slice(line)?;
+    Ok(())
 }
 
 /// Puts the entry of a group at the end of others.

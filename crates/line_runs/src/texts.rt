@@ -2,6 +2,7 @@
 
 ghost use Rattle.std.specs.Prelude.{◌≡◌, ◌<◌, ◌≤◌, ◌^◌, ◌∷◌, ◌++◌, ◌-◌, [], ℕ, List, All, IfOk, Ok, OnOk, drop, get_or, length, map as map_list, take};
 ghost use Rattle.std.specs.List.{concat};
+ghost use Rattle.std.specs.List.Sorted.{IsPermutation, IsSortedBy};
 ghost use Rattle.par_model.specs.Named.{bound_plan};
 ghost use Rattle.par_model.specs.Outcome.{IsAnswer};
 ghost use Rattle.partial_agg.specs.Listed.{listed};
@@ -9,13 +10,13 @@ ghost use Rattle.result_text.specs.Pieces.{joined};
 ghost use Rattle.result_text.specs.Printable.{ArePrintable, IsBoundFrom};
 ghost use Rattle.row_blocks.specs.Blocks.{Table};
 ghost use Rattle.part_run.specs.Parted.{AreParted};
-ghost use Rattle.line_runs.specs.Entries.{Entry};
+ghost use Rattle.line_runs.specs.Entries.{Entry, comes_before};
 ghost use Rattle.line_runs.specs.Jobs.{AreDone, IsDone};
 ghost use Rattle.line_runs.specs.Order.{entry_at};
 ghost use Rattle.line_runs.specs.Ranges.{AreOrdered, AreRangeTexts, IsRangeText, count_of, entries_of};
 ghost use Rattle.line_runs.specs.Runs.{AreRunsOf, Rise};
 
-use crate::order::{LineRef, sort_lines};
+use crate::order::{LineRef, sort_by_keys, sort_lines};
 use crate::ranges::Ranges;
 use crate::run::{Run, group_count};
 use par_model::BoundPlan;
@@ -28,13 +29,13 @@ use std::thread::{Threads, for_each_mut};
 
 /// Lines of a range, and about how many bytes they have.
 #[derive(Drop)]
-struct Found {
-    lines: Vec<LineRef>,
-    bytes: usize,
+pub(crate) struct Found {
+    pub(crate) lines: Vec<LineRef>,
+    pub(crate) bytes: usize,
 }
 
 /// How many ranges there are for each thread.
-const RANGES: usize = 4;
+pub(crate) const RANGES: usize = 4;
 
 /// The map of a part, and then the run of its lines, or no memory for it.
 #[derive(Drop)]
@@ -151,7 +152,6 @@ fn range_texts<R: Threads + Sync>(
     requires some { 0 < threads }
     requires ordered { AreOrdered ranges.now }
     requires columns { ranges.now.columns ≡ length bound.now.groups }
-    requires some_columns { 0 < ranges.now.columns }
     requires rise { All (Rise ranges.now.columns) runs.now }
     ensures { IfOk result (λ texts. AreRangeTexts ranges.now runs.now (count_of ranges.now) texts.items) }
 {
@@ -180,18 +180,43 @@ fn no_texts(alloc: Global, count: usize) -> Result<Vec<Part>, AllocError>
 fn range_text(alloc: Global, runs: &[Run], ranges: &Ranges<'_>, range: usize) -> Part
     requires ordered { AreOrdered ranges.now }
     requires range { range < count_of ranges.now }
-    requires some_columns { 0 < ranges.now.columns }
     requires rise { All (Rise ranges.now.columns) runs.now }
     ensures { IfOk result (λ text. IsRangeText ranges.now runs.now range text.items) }
 {
-    let mut found = lines_in(alloc, runs, ranges, range)?;
-    sort_lines(
-        found.lines.as_mut_slice(),
-        runs,
-        &ranges.shared(range),
-        ranges.columns(),
-    );
+    let found = lines_of(alloc, runs, ranges, range)?;
     text_of(alloc, runs, found.lines.as_slice(), found.bytes)
+}
+
+/// The lines of a range of all runs, in order.
+pub(crate) fn lines_of(
+    alloc: Global,
+    runs: &[Run],
+    ranges: &Ranges<'_>,
+    range: usize,
+) -> Result<Found, AllocError>
+    requires ordered { AreOrdered ranges.now }
+    requires range { range < count_of ranges.now }
+    requires rise { All (Rise ranges.now.columns) runs.now }
+    ensures same { IfOk result (λ found. IsPermutation (entries_of ranges.now runs.now range) (map_list (entry_at runs.now) found.lines.items)) }
+    ensures sorted { IfOk result (λ found. IsSortedBy (comes_before ranges.now.columns) (map_list (entry_at runs.now) found.lines.items)) }
+{
+    let mut found = lines_in(alloc, runs, ranges, range)?;
+    sort_range(found.lines.as_mut_slice(), runs, ranges, range);
+    Ok(found)
+}
+
+/// Puts lines of a range in the order of the table. Without columns nothing is shared, and there are no numbers.
+fn sort_range(lines: &mut [LineRef], runs: &[Run], ranges: &Ranges<'_>, range: usize)
+    requires range { range < count_of ranges.now }
+    ensures same { IsPermutation (map_list (entry_at runs.now) lines.old) (map_list (entry_at runs.now) lines.new) }
+    ensures sorted { IsSortedBy (comes_before ranges.now.columns) (map_list (entry_at runs.now) lines.new) }
+{
+    let columns = ranges.columns();
+    if columns == 0 {
+        sort_by_keys(lines, runs, columns);
+        return;
+    }
+    sort_lines(lines, runs, &ranges.shared(range), columns);
 }
 
 /// The lines of a range of all runs, run by run.

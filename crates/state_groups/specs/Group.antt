@@ -14,9 +14,13 @@ slots_bytes [] slots = []
 slots_bytes (kind ∷ kinds) [] = []
 slots_bytes (kind ∷ kinds) (slot ∷ slots) = slot_bytes kind slot ++ slots_bytes kinds slots
 
+-- what a group has after its key: the rows, the slots
+abbrev pub values_bytes : List Bool → ℕ → List SlotState → List ℕ
+values_bytes kinds rows slots = number_bytes rows ++ slots_bytes kinds slots
+
 -- a group: its key, the rows, the slots
 abbrev pub group_bytes : List Bool → List ℕ → ℕ → List SlotState → List ℕ
-group_bytes kinds key rows slots = text_bytes key ++ (number_bytes rows ++ slots_bytes kinds slots)
+group_bytes kinds key rows slots = text_bytes key ++ values_bytes kinds rows slots
 
 -- slots that at most this many rows can give, one for each kind
 abbrev pub AreSlots : List Bool → ℕ → List SlotState → Type 0

@@ -9,7 +9,7 @@ ghost use Rattle.par_model.specs.declared.refusal.TheConstants.{LONGEST_KEY};
 ghost use Rattle.par_model.specs.declared.state.SlotState.{SlotState};
 ghost use Rattle.state_file.specs.Number.{number_bytes};
 ghost use Rattle.state_file.specs.Text.{text_bytes};
-ghost use Rattle.state_groups.specs.Group.{AreSlots, IsGroup, IsKey, group_bytes, slots_bytes};
+ghost use Rattle.state_groups.specs.Group.{AreSlots, IsGroup, IsKey, group_bytes, slots_bytes, values_bytes};
 
 use crate::slot::{push_slot, read_slot};
 use par_model::{AggState, LONGEST_KEY, SlotState};
@@ -31,6 +31,19 @@ pub fn push_group(
     ensures { OnOk result (out.new.items ≡ out.old.items ++ group_bytes kinds.now key.now rows slots.now) }
 {
     push_text(out, key)?;
+    push_values(out, kinds, rows, slots)
+}
+
+/// Puts what a group has after its key at the end of some bytes: its rows, and a slot for each kind.
+pub fn push_values(
+    out: &mut Vec<u8>,
+    kinds: &[bool],
+    rows: u64,
+    slots: &[SlotState],
+) -> Result<(), AllocError>
+    requires { length kinds.now ≤ length slots.now }
+    ensures { OnOk result (out.new.items ≡ out.old.items ++ values_bytes kinds.now rows slots.now) }
+{
     push_number(out, u128::from(rows))?;
     push_slots(out, kinds, slots)
 }

@@ -5,5 +5,5 @@
 mod group;
 mod slot;
 
-pub use group::{push_group, read_group};
+pub use group::{push_group, push_values, read_group};
 pub use slot::{push_slot, read_slot};

@@ -1,4 +1,4 @@
-mod Files
-mod Pushed
-mod Rising
+pub mod Files
+pub mod Pushed
+pub mod Rising
 mod Slots

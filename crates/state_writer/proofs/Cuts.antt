@@ -10,7 +10,8 @@ use Rattle.state_body.specs.Body.{IsIndex, body_bytes, end_bytes, foot_bytes}
 use Rattle.state_body.specs.declared.index.Index.{Index}
 use Rattle.state_body.proofs.Indexes.{blocks-push}
 use Rattle.state_file.specs.Section.{section}
-use Rattle.state_groups.specs.Group.{group_bytes}
+use Rattle.state_file.specs.Text.{text_bytes}
+use Rattle.state_groups.specs.Group.{group_bytes, values_bytes}
 use Rattle.state_writer.specs.Writing.{Cut, Ends, Goes, HasTaken, Holds, IsShort, blocks_of, closed, cut, cut_more, group_of}
 use Rattle.state_writer.specs.declared.writer.BodyWriter.{BodyWriter}
 
@@ -90,6 +91,12 @@ took kinds start c written old new key rows slots is same block groups none some
   many = let many = is.many in omega (arith, groups, many, length-append c.begun (group_of key rows slots ∷ []));
   first = first_of c.begun (group_of key rows slots) key old.first.items new.first.items old.groups is.many none some is.first refl;
 }
+
+-- likewise if what comes after its key was made before
+pub took_made : (kinds : List Bool) (start : ℕ) (c : Cut) (written : List ℕ) (old new : BodyWriter) (key values : List ℕ) (g : Group) → Holds kinds start c written old → g.key ≡ key → values_bytes kinds g.rows g.slots ≡ values → new.index ≡ old.index
+    → new.block.items ≡ old.block.items ++ (text_bytes key ++ values) → new.groups ≡ old.groups + 1 → (old.groups ≡ 0 → new.first.items ≡ key) → (0 < old.groups → new.first.items ≡ old.first.items) → Took kinds start c g written new
+took_made kinds start c written old new key values g has same made index block groups none some =
+    took kinds start c written old new g.key g.rows g.slots has index (block ∙ (λ i. old.block.items ++ (text_bytes (sym same i) ++ sym made i))) groups (λ e. none e ∙ sym same) some
 
 -- the block is not full
 opened : (kinds : List Bool) (start : ℕ) (c : Cut) (g : Group) (written : List ℕ) (w : BodyWriter) → Took kinds start c g written w → length w.block.items < 60_000 → Holds kinds start (cut_more kinds c g) written w

@@ -6,13 +6,14 @@ ghost use Rattle.std.specs.Prelude.{◌≡◌, ◌<◌, ◌≤◌, ◌+◌, ◌^
 ghost use Rattle.state_blocks.specs.Blocks.{Group, block_bytes, first_key};
 ghost use Rattle.state_body.specs.Body.{IsIndex, end_bytes};
 ghost use Rattle.state_file.specs.Section.{section};
-ghost use Rattle.state_groups.specs.Group.{group_bytes};
+ghost use Rattle.state_file.specs.Text.{text_bytes};
+ghost use Rattle.state_groups.specs.Group.{group_bytes, values_bytes};
 ghost use Rattle.state_writer.specs.Writing.{Ends, Fit, FitInBlocks, Fits, Goes, HasTaken, group_of};
 ghost use Rattle.state_writer.specs.declared.writer.WriteError.TheVariants as variant;
 
 use par_model::SlotState;
 use state_body::{Index, MOST_FOOT, push_end};
-use state_file::push_section;
+use state_file::{push_section, push_text};
 use state_groups::push_group;
 use std::alloc::{AllocError, Global};
 
@@ -91,6 +92,29 @@ impl BodyWriter {
         Ok(())
     }
 
+    /// Takes a group whose bytes after its key are made, as [`push_values`](state_groups::push_values) makes them, as [`push`](Self::push) takes one.
+    pub fn push_made(
+        &mut self,
+        out: &mut Vec<u8>,
+        key: &[u8],
+        values: &[u8],
+    ) -> Result<(), WriteError>
+        ensures taken { (kinds : List Bool) (start : ℕ) (groups : List Group) (written : List ℕ) (g : Group) → HasTaken kinds start groups written self.old → g.key ≡ key.now → values_bytes kinds g.rows g.slots ≡ values.now
+            → OnOk result (Goes kinds start (groups ++ g ∷ []) written out.old.items out.new.items self.new) }
+
+        // When the error comes that is not of memory. Nothing is written then.
+        ensures long { (kinds : List Bool) (start : ℕ) (groups : List Group) (written : List ℕ) (g : Group) → HasTaken kinds start groups written self.old → g.key ≡ key.now → values_bytes kinds g.rows g.slots ≡ values.now
+            → result ≡ Err variant.Long → FitInBlocks kinds start (groups ++ g ∷ []) → ⊥ }
+        ensures same { result ≡ Err variant.Long → out.new.items ≡ out.old.items }
+    {
+        self.take_made(key, values)?;
+        if !self.is_full() {
+            return Ok(());
+        }
+        self.close(out)?;
+        Ok(())
+    }
+
     /// Puts the block, the foot and the end of the file at the end of `out`.
     pub fn finish(mut self, alloc: Global, out: &mut Vec<u8>) -> Result<(), WriteError>
         ensures ends { (kinds : List Bool) (start : ℕ) (groups : List Group) (written : List ℕ) → HasTaken kinds start groups written self → OnOk result (Ends kinds start groups written out.old.items out.new.items) }
@@ -126,6 +150,25 @@ impl BodyWriter {
         }
         self.note(key)?;
         push_group(&mut self.block, kinds, key, rows, slots)?;
+        self.groups += 1;
+        Ok(())
+    }
+
+    /// Takes a group whose bytes after its key are made into the block.
+    fn take_made(&mut self, key: &[u8], values: &[u8]) -> Result<(), WriteError>
+        ensures index { OnOk result (self.new.index ≡ self.old.index) }
+        ensures block { OnOk result (self.new.block.items ≡ self.old.block.items ++ (text_bytes key.now ++ values.now)) }
+        ensures groups { OnOk result (self.new.groups ≡ self.old.groups + 1) }
+        ensures first { OnOk result (self.old.groups ≡ 0 → self.new.first.items ≡ key.now) }
+        ensures later { OnOk result (0 < self.old.groups → self.new.first.items ≡ self.old.first.items) }
+        ensures long { result ≡ Err variant.Long → 2 ^ 62 < self.old.groups }
+    {
+        if self.groups > MOST {
+            return Err(WriteError::Long);
+        }
+        self.note(key)?;
+        push_text(&mut self.block, key)?;
+        self.block.extend_from_slice(values)?;
         self.groups += 1;
         Ok(())
     }

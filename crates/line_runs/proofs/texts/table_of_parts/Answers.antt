@@ -14,9 +14,6 @@ runs_of-requires-clause-printable g c κs within = let rows = c.requires.rows in
 pub range_texts-requires-clause-columns : goal.range_texts-requires-clause-columns
 range_texts-requires-clause-columns g c κs within = c.in_ok-ranges.ensures.columns ∙ c.group_count.ensures
 
-pub range_texts-requires-clause-some_columns : goal.range_texts-requires-clause-some_columns
-range_texts-requires-clause-some_columns g c κs within = omega (arith, c.group_count.ensures, c.in_ok-ranges.ensures.columns, c.requires.columns)
-
 pub range_texts-requires-clause-rise : goal.range_texts-requires-clause-rise
 range_texts-requires-clause-rise g c κs within =
     subst (All (Rise c.in_ok-ranges.ranges.columns)) (sym c.deref-2.ensures.value)

@@ -1,60 +1,9 @@
-use Rattle.std.proofs.Common.{◌≡◌, ◌<◌, ◌-◌, ◌∙◌, ℕ, List, ap, arith, drop, get_or, length, sym, take}
-use Rattle.std.proofs.lemmas.List.{get_or_past}
-use Rattle.csv.specs.Records.{prev}
-use Rattle.line_runs.specs.Entries.{Entry, entry_in, no_entry}
-use Rattle.line_runs.proofs.Entries.{entry-there}
+use Rattle.std.proofs.Common.{◌∙◌, ap}
+use Rattle.line_runs.specs.Entries.{Entry}
 use Rattle.line_runs.proofs.run.Run.split.Goals as goal
 
--- no line is there
-pub returns-then-at-len-clause-key : goal.returns-then-at-len-clause-key
-returns-then-at-len-clause-key c = ap (λ (e : Entry). e.0) (sym (get_or_past c.args.self.now c.args.at no_entry (omega (arith, c.len.ensures, c.if-at-len.true))))
-
-pub returns-then-at-len-clause-line : goal.returns-then-at-len-clause-line
-returns-then-at-len-clause-line c = ap (λ (e : Entry). e.1) (sym (get_or_past c.args.self.now c.args.at no_entry (omega (arith, c.len.ensures, c.if-at-len.true))))
-
--- where the line lies
-pub span-start-requires : goal.span-start-requires
-span-start-requires c =
-    let lt : c.args.at < length c.args.self.now = omega (arith, c.len.ensures, c.if-at-len.false) in
-    (entry-there c.self.inside.bytes.items c.self.inside.ends.items c.args.self.now c.args.at c.self.view_is c.self.invariant lt).there
-
-pub slice_bounds-split_entry-count : goal.slice_bounds-split_entry-count
-slice_bounds-split_entry-count c =
-    let lt : c.args.at < length c.args.self.now = omega (arith, c.len.ensures, c.if-at-len.false) in
-    let f = entry-there c.self.inside.bytes.items c.self.inside.ends.items c.args.self.now c.args.at c.self.view_is c.self.invariant lt in
-    let b = c.span-start.ensures in
-    omega (arith, b.start, b.end, f.up)
-
-pub slice_bounds-split_entry-start : goal.slice_bounds-split_entry-start
-slice_bounds-split_entry-start c =
-    let lt : c.args.at < length c.args.self.now = omega (arith, c.len.ensures, c.if-at-len.false) in
-    let f = entry-there c.self.inside.bytes.items c.self.inside.ends.items c.args.self.now c.args.at c.self.view_is c.self.invariant lt in
-    let b = c.span-start.ensures in
-    omega (arith, b.start, b.end, f.up, f.within, ap length c.as_slice.ensures.value)
-
-pub slice_bounds-split_entry-end : goal.slice_bounds-split_entry-end
-slice_bounds-split_entry-end c =
-    let lt : c.args.at < length c.args.self.now = omega (arith, c.len.ensures, c.if-at-len.false) in
-    let f = entry-there c.self.inside.bytes.items c.self.inside.ends.items c.args.self.now c.args.at c.self.view_is c.self.invariant lt in
-    let b = c.span-start.ensures in
-    omega (arith, b.start, b.end, f.up, f.within, ap length c.as_slice.ensures.value)
-
 pub returns-clause-key : goal.returns-clause-key
-returns-clause-key c =
-    let ends = c.self.inside.ends.items in
-    let lt : c.args.at < length c.args.self.now = omega (arith, c.len.ensures, c.if-at-len.false) in
-    let f = entry-there c.self.inside.bytes.items c.self.inside.ends.items c.args.self.now c.args.at c.self.view_is c.self.invariant lt in
-    let b = c.span-start.ensures in
-    let cut : take (c.span-start.result.1 - c.span-start.result.0) (drop c.span-start.result.0 c.as_slice.result.now) ≡ take (get_or ends c.args.at 0 - prev 0 ends c.args.at) (drop (prev 0 ends c.args.at) c.self.inside.bytes.items) =
-    λ i. take (b.end i - b.start i) (drop (b.start i) (c.as_slice.ensures.value i)) in
-    c.split_entry.ensures.key ∙ ap (λ (bytes : List ℕ). (entry_in bytes).0) cut ∙ ap (λ (e : Entry). e.0) (sym f.value)
+returns-clause-key c = c.split_entry.ensures.key ∙ ap (λ (e : Entry). e.0) c.entry.ensures
 
 pub returns-clause-line : goal.returns-clause-line
-returns-clause-line c =
-    let ends = c.self.inside.ends.items in
-    let lt : c.args.at < length c.args.self.now = omega (arith, c.len.ensures, c.if-at-len.false) in
-    let f = entry-there c.self.inside.bytes.items c.self.inside.ends.items c.args.self.now c.args.at c.self.view_is c.self.invariant lt in
-    let b = c.span-start.ensures in
-    let cut : take (c.span-start.result.1 - c.span-start.result.0) (drop c.span-start.result.0 c.as_slice.result.now) ≡ take (get_or ends c.args.at 0 - prev 0 ends c.args.at) (drop (prev 0 ends c.args.at) c.self.inside.bytes.items) =
-    λ i. take (b.end i - b.start i) (drop (b.start i) (c.as_slice.ensures.value i)) in
-    c.split_entry.ensures.line ∙ ap (λ (bytes : List ℕ). (entry_in bytes).1) cut ∙ ap (λ (e : Entry). e.1) (sym f.value)
+returns-clause-line c = c.split_entry.ensures.line ∙ ap (λ (e : Entry). e.1) c.entry.ensures

@@ -1,0 +1,5 @@
+mod Making
+mod Moved
+mod Putting
+mod Sorted
+mod Whole
