@@ -1,4 +1,5 @@
 mod Answers
 mod Asked
+mod Cats
 mod Parts
 mod Sent

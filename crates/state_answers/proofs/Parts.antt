@@ -6,12 +6,12 @@ use Rattle.plan_spec.specs.Query.{Query}
 use Rattle.row_blocks.specs.Blocks.{Table}
 use Rattle.state_head.specs.declared.cover.Place.{Place}
 use Rattle.state_law.specs.Law.{with_header}
-use Rattle.state_law.specs.Made.{IsMade, tile, whole}
+use Rattle.state_law.specs.Made.{tile, whole}
 use Rattle.state_law.specs.Sources.{bytes_at, whole_place}
 use Rattle.state_law.specs.Truth.{IsReadOf}
 use Rattle.state_plan.specs.FilePlans.{header_of}
 use Rattle.state_whole.specs.Files.{StateFile, file_bytes}
-use Rattle.state_answers.specs.Sent.{AreSent, IsFileText, IsJob, IsPart, IsSent, Job, PartIsSent, TileIsSent, work_by}
+use Rattle.state_answers.specs.Sent.{IsJob, IsPart, IsSent, Job, MadeIsSent, PartIsSent, TileIsSent, work_by}
 use Rattle.state_answers.proofs.Asked.{ask_for_one}
 
 -- by the query and the header of the job
@@ -22,12 +22,12 @@ read_by j p read f job part =
     let by_query = subst (λ (q : Query). IsReadOf q.plan part.header p read f) same part.is_read in
     subst (λ (h : List (List ℕ)). IsReadOf j.query.plan h p read f) head by_query
 
-one_sent : (j : Job) (p : Place) (read : List ℕ) (f : StateFile) (bytes : List ℕ) → IsPart j p read f → IsFileText j f bytes → IsMade (work_by j) f → AreSent j bytes
-one_sent j p read f bytes part text made = record {
+pub made_is_sent : MadeIsSent
+made_is_sent j f bytes made subject text = record {
   shape = text.shape;
   is_shape = text.is_shape;
   files = f ∷ [];
-  each = All-cons (IsSent j text.shape) f [] (record { made = made; is_file = text.is_file; subject_is = part.subject_is }) (All-nil (IsSent j text.shape));
+  each = All-cons (IsSent j text.shape) f [] (record { made = made; is_file = text.is_file; subject_is = subject }) (All-nil (IsSent j text.shape));
   are = text.is ∙ sym (append-nil (file_bytes text.shape.kinds.now f));
 }
 
@@ -35,9 +35,9 @@ pub part_is_sent : PartIsSent
 part_is_sent j source f bytes job part text =
     let t = get_or j.texts source [] in
     let p = whole_place source t in
-    one_sent j p t f bytes part text (whole source f (read_by j p t f job part))
+    made_is_sent j f bytes (whole source f (read_by j p t f job part)) part.subject_is text
 
 pub tile_is_sent : TileIsSent
 tile_is_sent j p before f bytes job one cut is_tile part text =
     let read = with_header p.from before (bytes_at (work_by j) p) in
-    one_sent j p read f bytes part text (tile before p f one cut is_tile (read_by j p read f job part))
+    made_is_sent j f bytes (tile before p f one cut is_tile (read_by j p read f job part)) part.subject_is text

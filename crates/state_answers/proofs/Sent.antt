@@ -12,7 +12,7 @@ use Rattle.partial_agg.specs.Groups.{AreGroups}
 use Rattle.plan_spec.specs.Query.{Query}
 use Rattle.state_front.specs.Front.{IsFront}
 use Rattle.state_head.specs.Cover.{IsCover}
-use Rattle.state_head.specs.Head.{IsSubject, Preface, Subject, head_bytes}
+use Rattle.state_head.specs.Head.{IsSubject, Preface, Subject}
 use Rattle.state_head.specs.Words.{AreKeys, Keys}
 use Rattle.state_lanes.specs.Lanes.{kinds_of, lanes_of}
 use Rattle.state_law.specs.Law.{IsOneOf}
@@ -44,17 +44,17 @@ first_same j a b subject keys (f ∷ fs) (g ∷ gs) some parts sent e =
     sym part.is_alike.subject_is ∙ ap (λ (p : Preface). p.subject) same ∙ one.subject_is
 
 -- the plan over the columns of a header
-abbrev bound_by : Subject → Query → Plan
+abbrev pub bound_by : Subject → Query → Plan
 bound_by s q = bound_plan (header_of s) q.plan
 
 module _ (j : Job) (bytes : List ℕ) (i : Input) (job : IsJob j) (sent : AreSent j bytes) (input : IsInput bytes i) where
   subject_same : i.subject ≡ j.subject
   subject_same = first_same j i.shape sent.shape i.subject i.keys i.files sent.files input.some input.are sent.each (sym input.is ∙ sent.are)
 
-  query_same : i.query ≡ j.query
+  pub query_same : i.query ≡ j.query
   query_same = ask_for_one j.subject.words i.query j.query (subst (λ (s : Subject). AskFor s.words i.query) subject_same input.ask_for) job.ask_for
 
-  bound_same : bound_by i.subject i.query ≡ bound_by j.subject j.query
+  pub bound_same : bound_by i.subject i.query ≡ bound_by j.subject j.query
   bound_same = ap (λ (s : Subject). bound_by s i.query) subject_same ∙ ap (λ (q : Query). bound_by j.subject q) query_same
 
   columns_same : sent.shape.columns ≡ i.shape.columns
@@ -156,8 +156,8 @@ cat_is_sent j bytes others a b = record {
 }
 
 -- the front of the one file
-front_of : (i : Input) (bytes : List ℕ) (f : StateFile) → IsInput bytes i → IsOneFile i f → i.keys ≡ all_keys → length (head_bytes f.preface) ≤ 2 ^ 28 → IsFront f.preface
-front_of i bytes f input one keys short =
+front_of : (i : Input) (bytes : List ℕ) (f : StateFile) → IsInput bytes i → IsOneFile i f → i.keys ≡ all_keys → IsFront f.preface
+front_of i bytes f input one keys =
     let first = input.are 0 f input.some in
     let subject = subst IsSubject (first.is_alike.subject_is ∙ sym one.subject_is) first.is_file.is_front.is_head.is_subject in
     record {
@@ -166,11 +166,11 @@ front_of i bytes f input one keys short =
         is_cover = subst (λ (s : Subject). IsCover s.sources f.preface.cover) (sym one.subject_is) one.is_cover;
         are_keys = subst AreKeys (sym (one.keys_are ∙ keys)) (record { low = omega arith; high = omega arith });
       };
-      short = short;
+      short = one.short;
     }
 
 pub combine_is_sent : MadeIsTrue → CombinedIsRead → OneFileIsMade → CombineIsSent
-combine_is_sent true_of read once j bytes file job sent few one keys short =
+combine_is_sent true_of read once j bytes file job sent few one keys =
     let i = one.input in
     let work = work_same j bytes i job sent one.is_input in
     let shape = subst (λ (p : Plan). IsShapeOf p i.shape) (bound_same j bytes i job sent one.is_input) one.is_input.is_shape in
@@ -180,7 +180,7 @@ combine_is_sent true_of read once j bytes file job sent few one keys short =
     let rows = ap (λ (w : Work). length (rows_in w (stretches_of sent.files))) work in
     let same = ap (λ (fs : List StateFile). length (rows_in (work_of i j.texts) (stretches_of fs))) (files_same j bytes i job sent one.is_input) in
     let made = once bytes i j.texts one.f one.is_input files (omega (arith, few, rows, same)) one.one in
-    let is_file = read (work_of i j.texts) i.files one.f is_one all (omega (arith, few, rows, same)) keys (front_of i bytes one.f one.is_input one.one keys short) in
+    let is_file = read (work_of i j.texts) i.files one.f is_one all (omega (arith, few, rows, same)) keys (front_of i bytes one.f one.is_input one.one keys) in
     record {
       shape = i.shape;
       is_shape = shape;

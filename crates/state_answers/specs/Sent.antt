@@ -6,7 +6,7 @@ use Rattle.par_model.specs.Named.{bound_plan}
 use Rattle.par_model.specs.Outcome.{IsAnswer}
 use Rattle.partial_agg.specs.Groups.{AreGroups}
 use Rattle.plan_spec.specs.Query.{Query}
-use Rattle.state_head.specs.Head.{Subject, head_bytes}
+use Rattle.state_head.specs.Head.{Subject}
 use Rattle.state_head.specs.declared.cover.Place.{Place}
 use Rattle.state_head.specs.declared.cover.Stretch.{Stretch}
 use Rattle.state_law.specs.Law.{with_header}
@@ -105,11 +105,10 @@ CombineIsMade = (j : Job) (bytes file : List ℕ) → IsJob j → (sent : AreSen
 abbrev pub CatIsSent : Type 0
 CatIsSent = (j : Job) (bytes others : List ℕ) → AreSent j bytes → AreSent j others → AreSent j (bytes ++ others)
 
--- the one file may be sent again, if there are at most 2^50 rows and its head is no longer than a head may be; so files may be put together
--- in any tree
+-- the one file may be sent again, if there are at most 2^50 rows; so files may be put together in any tree
 abbrev pub CombineIsSent : Type 0
 CombineIsSent = (j : Job) (bytes file : List ℕ) → IsJob j → (sent : AreSent j bytes) → length (rows_in (work_by j) (stretches_of sent.files)) ≤ 2 ^ 50 → (one : AreOneFile bytes file) → one.input.keys ≡ all_keys
-    → length (head_bytes one.f.preface) ≤ 2 ^ 28 → AreSent j file
+    → AreSent j file
 
 -- what a reading of bytes gives as a file, by the plan that the words ask for
 pub record IsPart (j : Job) (p : Place) (read : List ℕ) (f : StateFile) : Type 0 where
@@ -135,3 +134,7 @@ PartIsSent = (j : Job) (source : ℕ) (f : StateFile) (bytes : List ℕ) → IsJ
 abbrev pub TileIsSent : Type 0
 TileIsSent = (j : Job) (p : Place) (before : List ℕ) (f : StateFile) (bytes : List ℕ) → IsJob j → records_of before ≡ header_of j.subject ∷ [] → IsCut before → IsTile (work_by j) p
     → IsPart j p (with_header p.from before (bytes_at (work_by j) p)) f → IsFileText j f bytes → AreSent j bytes
+
+-- whatever came about of the sources may be sent, if it can be read
+abbrev pub MadeIsSent : Type 0
+MadeIsSent = (j : Job) (f : StateFile) (bytes : List ℕ) → IsMade (work_by j) f → f.preface.subject ≡ j.subject → IsFileText j f bytes → AreSent j bytes

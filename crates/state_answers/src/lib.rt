@@ -7,10 +7,12 @@
 #![tactic(auto)]
 
 ghost use Rattle.state_answers.specs.Answers.{AskForOne, GroupsAreAll, OneFileIsMade, ReadingIsMade, RefusalIsFirst, TableAnswers, TablesAgree, TileReadingIsMade};
-ghost use Rattle.state_answers.specs.Sent.{CatIsSent, CombineIsMade, CombineIsSent, FinalizeAnswers, FinalizeRefuses, FinalizesAgree, PartIsSent, SentAreRead, SentGroupsAreAll, TileIsSent};
+ghost use Rattle.state_answers.specs.Sent.{CatIsSent, CombineIsMade, CombineIsSent, FinalizeAnswers, FinalizeRefuses, FinalizesAgree, MadeIsSent, PartIsSent, SentAreRead, SentGroupsAreAll, TileIsSent};
+ghost use Rattle.state_answers.specs.Touching.{RangesAgree, RangesAreTable};
 
 use part_law::answers_agree;
 use state_law::{combined_is_read, made_is_true, row_is_first, sum_is_all, text_answers};
+use state_range::ranges_answer;
 
 /// The words of a file ask for one query. A law: it does nothing when it runs.
 pub fn ask_for_one()
@@ -101,6 +103,24 @@ pub fn finalizes_agree()
     finalize_answers();
 }
 
+/// The texts that `finalize` makes of ranges which touch, one after another, are the table of one pass over all their rows, of whatever
+/// files each of them is made. A law: it does nothing when it runs.
+pub fn ranges_are_table()
+    ensures { RangesAreTable }
+{
+    sent_groups_are_all();
+    ranges_answer();
+}
+
+/// They are the text that it makes without a range. A law: it does nothing when it runs.
+pub fn ranges_agree()
+    ensures { RangesAgree }
+{
+    answers_agree();
+    finalize_answers();
+    ranges_are_table();
+}
+
 /// The refused row that `finalize` names is the first one of all rows of all sources. A law: it does nothing when it runs.
 pub fn finalize_refuses()
     ensures { FinalizeRefuses }
@@ -138,4 +158,9 @@ pub fn part_is_sent()
 /// So may what it makes of a tile of one, after the header. A law: it does nothing when it runs.
 pub fn tile_is_sent()
     ensures { TileIsSent }
+{}
+
+/// So may whatever came about of the sources, if it can be read. A law: it does nothing when it runs.
+pub fn made_is_sent()
+    ensures { MadeIsSent }
 {}

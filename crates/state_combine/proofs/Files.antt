@@ -1,5 +1,5 @@
 -- The file of the sum of several files.
-use Rattle.std.proofs.Common.{◌≡◌, ◌++◌, ◌∙◌, inl, inr, ℕ, List, [], ◌∷◌, All, ap, length, map, subst, sym}
+use Rattle.std.proofs.Common.{◌≡◌, ◌≤◌, ◌^◌, ◌++◌, ◌∙◌, arith, inl, inr, ℕ, List, [], ◌∷◌, All, ap, length, map, subst, sym}
 use Rattle.std.proofs.lemmas.List.{nil_from_length}
 use Rattle.std.proofs.lemmas.List.Elements.{All-head, All-nil, All-tail}
 use Rattle.std.proofs.lemmas.List.Sorted.{length_permutation}
@@ -13,7 +13,7 @@ use Rattle.state_body.specs.Body.{IsBody}
 use Rattle.state_cover.specs.Bytes.{had}
 use Rattle.state_front.specs.Front.{front_bytes}
 use Rattle.state_head.specs.Cover.{IsCover}
-use Rattle.state_head.specs.Head.{Preface, Subject}
+use Rattle.state_head.specs.Head.{Preface, Subject, head_bytes}
 use Rattle.state_head.specs.Words.{Keys}
 use Rattle.state_head.specs.declared.cover.RefusedRow.{RefusedRow}
 use Rattle.state_head.specs.declared.cover.Rows.TheVariants.{Refused}
@@ -23,7 +23,7 @@ use Rattle.state_total.specs.Total.{AreCounted, IsCounted, IsCoverOf, IsFirstRef
 use Rattle.state_total.specs.declared.total.FirstRefused.{FirstRefused}
 use Rattle.state_whole.specs.Files.{StateFile, tuples_in}
 use Rattle.state_whole.specs.declared.adding.Shape.{Shape}
-use Rattle.state_combine.specs.Combined.{AreBeside, IsCombined}
+use Rattle.state_combine.specs.Combined.{AreBeside, IsCombined, made_of}
 
 -- a map without groups
 pub no_groups : listed finite.empty ≡ []
@@ -60,14 +60,16 @@ all_told shape cover m groups (inr is) told = subst (All (IsTold shape)) (sym is
 
 -- the file of a head and of the groups beside its cover
 pub combined_file : (shape : Shape) (subject : Subject) (keys : Keys) (cover stretches : List Stretch) (m : GroupsByKey) (groups : List MapGroup) (f : StateFile) → IsCoverOf cover stretches → IsCover subject.sources cover → ((source at : ℕ) → had source at cover ≡ had source at stretches)
-    → AreBeside cover m groups → IsFileOf shape (record { subject = subject; cover = cover; keys = keys }) groups f → IsCombined shape subject keys m stretches f
-combined_file shape subject keys cover stretches m groups f join is_cover bytes beside is =
+    → length (head_bytes (made_of subject keys cover)) ≤ 2 ^ 28 → AreBeside cover m groups → IsFileOf shape (made_of subject keys cover) groups f → IsCombined shape subject keys m stretches f
+combined_file shape subject keys cover stretches m groups f join is_cover bytes short beside is =
     let cover_is : f.preface.cover ≡ cover = ap (λ (p : Preface). p.cover) is.preface_is in
+    let head_is = ap (λ (p : Preface). length (head_bytes p)) is.preface_is in
     record {
       subject_is = ap (λ (p : Preface). p.subject) is.preface_is;
       keys_are = ap (λ (p : Preface). p.keys) is.preface_is;
       join = subst (λ (ss : List Stretch). IsCoverOf ss stretches) (sym cover_is) join;
       is_cover = subst (IsCover subject.sources) (sym cover_is) is_cover;
+      short = omega (arith, head_is, short);
       bytes = λ source at. ap (had source at) cover_is ∙ bytes source at;
       counted = λ counted. tuples_counted shape cover m groups f beside is.are (subst (All IsCounted) cover_is counted);
       refused = λ refused. tuples_refused shape cover m groups f beside is.are (λ all. refused (subst (All IsCounted) (sym cover_is) all));

@@ -26,6 +26,7 @@ pub record IsCombined (shape : Shape) (subject : Subject) (keys : Keys) (m : Gro
   pub keys_are : f.preface.keys ≡ keys
   pub join : IsCoverOf f.preface.cover stretches
   pub is_cover : IsCover subject.sources f.preface.cover
+  pub short : length (head_bytes f.preface) ≤ 2 ^ 28
   pub bytes : (source at : ℕ) → had source at f.preface.cover ≡ had source at stretches
   pub counted : All IsCounted f.preface.cover → AreTuplesOf shape (listed m) (tuples_in f)
   pub refused : (All IsCounted f.preface.cover → ⊥) → tuples_in f ≡ []

@@ -30,7 +30,7 @@ returns-in-Ok-push_file-clause-file c =
     let by_map = subst (λ (m : GroupsByKey). AreBeside c.as_slice.result.now m c.groups_beside-groups.result) c.into_parts-map.ensures.map c.groups_beside-groups.ensures in
     let beside = subst (λ (ss : List Stretch). AreBeside ss c.args.sum.map c.groups_beside-groups.result) c.as_slice.ensures.value by_map in
     let join : IsCoverOf cover c.args.sum.cover.items = record { order = c.join_cover.new.stretches.items; same = same; join = c.in-Ok.ensures.joins } in
-    (got.0, combined_file c.args.shape.now (subject_of c.args.whole) (keys_of c.args.range) cover c.args.sum.cover.items c.args.sum.map c.groups_beside-groups.result got.0 join c.in-Ok.ensures.cover bytes beside got.1, got.2)
+    (got.0, combined_file c.args.shape.now (subject_of c.args.whole) (keys_of c.args.range) cover c.args.sum.cover.items c.args.sum.map c.groups_beside-groups.result got.0 join c.in-Ok.ensures.cover bytes c.in-Ok-push_file.ensures.short beside got.1, got.2)
 
 pub returns-clause-long : goal.returns-clause-long
 returns-clause-long c = λ e.
