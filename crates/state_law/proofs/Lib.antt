@@ -1,5 +1,5 @@
 mod Blank
-mod Cuts
+pub mod Cuts
 mod FirstRows
 mod Groups
 mod Joins

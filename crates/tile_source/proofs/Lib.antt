@@ -3,3 +3,4 @@ pub mod Leaves
 pub mod Passes
 pub mod Opening
 pub mod Marks
+pub mod Reasons

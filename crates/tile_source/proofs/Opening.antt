@@ -172,7 +172,7 @@ opens-front span b t text header after end (Some bytes) (Some left) first headed
     begins-at span bytes b t s header after end left opens brings (sym front) (ap (λ (l : List ℕ). l ++ left) (sym back))
 
 -- no end of a line is in nothing
-no-line-end : (n : ℕ) (xs : List ℕ) → xs ≡ [] → IsLineEnd (take n xs) → ⊥
+pub no-line-end : (n : ℕ) (xs : List ℕ) → xs ≡ [] → IsLineEnd (take n xs) → ⊥
 no-line-end zero xs none (inl is) = cc is
 no-line-end zero xs none (inr is) = cc is
 no-line-end (suc n) [] none (inl is) = cc is
@@ -197,7 +197,7 @@ opens-place span b t text header after rest end n at (Some bytes) (Some m) (Some
     ap (λ (l : List ℕ). l ++ m) (sym (take-append-drop end text)) ∙ (append_assoc (take end text) (drop end text) m ∙ ap (λ (l : List ℕ). take end text ++ (l ++ m)) (sym back)) in
     let brings : Brings span bytes b s = record {
       are = reads ∙ (whole ∙ ap (λ (l : List ℕ). take end text ++ l) passed);
-      front = inr (some, record { line = line; at = opens.at_is ∙ begun.at_is; whole = ends.cut.seam.whole; last = last });
+      front = inr (some, record { line = line; at = opens.at_is ∙ begun.at_is; one = ends.one; whole = ends.cut.seam.whole; last = last });
       header = opens.long ∙ ap length front;
       one = inl ends.one;
       begins = elim begun.begins [ inl first ↦ inr (begins-more rest left first) | inr none ↦ inl (both-none rest left none.0 none.1) ];

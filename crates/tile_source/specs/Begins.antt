@@ -35,6 +35,7 @@ pub record EndsInRecord (bytes : List ℕ) : Type 0 where
 pub record IsFromPlace (from : ℕ) (b : Begin) (s : Brought) : Type 0 where
   pub line : IsLineEnd s.line_end
   pub at : b.at ≡ min (from + length s.passed) (2 ^ 64 - 1)
+  pub one : length (records_of s.header) ≡ 1
   pub whole : IsCut s.header
   pub last : EndsInRecord s.header
 

@@ -1,5 +1,5 @@
 -- How the beginning of a tile is found.
-use Rattle.std.specs.Prelude.{◌≡◌, ◌+◌, ◌-◌, ◌^◌, ◌⊎◌, ℕ, List, Option, [], false, length, max, min}
+use Rattle.std.specs.Prelude.{◌≡◌, ◌<◌, ◌+◌, ◌-◌, ◌^◌, ◌⊎◌, ℕ, List, Option, [], false, length, max, min}
 use Rattle.std.specs.Io.KnownBytes.{Consumes, IsAtEnd, prepend_known}
 use Rattle.csv_rows.specs.declared.place.Place.TheVariants as place
 use Rattle.row_windows.specs.Seams.{BeginsLine}
@@ -15,6 +15,13 @@ pub record HasBegun (ahead : List ℕ) (old new : Option (List ℕ)) (from at : 
   pub reads : Consumes (prepend_known ahead old) (prepend_known rest new) passed
   pub at_is : at ≡ min (from + length passed) (2 ^ 64 - 1)
   pub begins : BeginsLine rest ⊎ ((rest ≡ []) × IsAtEnd new)
+
+-- the source ended before its size: all bytes of it were passed over
+pub record HasEnded (ahead : List ℕ) (old new : Option (List ℕ)) (from size : ℕ) : Type 0 where
+  pub passed : List ℕ
+  pub reads : Consumes (prepend_known ahead old) new passed
+  pub end : IsAtEnd new
+  pub early : from + length passed < size
 
 -- a tile from this place on, before anything was given of it
 pub record OpensAt (span : Span) (header ahead : List ℕ) (at : ℕ) (b : Begin) (t : Tile) : Type 0 where

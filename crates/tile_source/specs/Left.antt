@@ -1,5 +1,5 @@
 -- What is left of a tile.
-use Rattle.std.specs.Prelude.{◌+◌, ◌-◌, ℕ, zero, suc, List, Option, None, Some, [], ◌∷◌, ◌++◌, length, if◌then◌else◌}
+use Rattle.std.specs.Prelude.{◌≡◌, ◌+◌, ◌-◌, ℕ, zero, suc, List, Option, None, Some, [], ◌∷◌, ◌++◌, length, if◌then◌else◌}
 use Rattle.std.specs.Io.KnownBytes.{prepend_known}
 use Rattle.std.specs.Option.{option_map}
 use Rattle.tile_source.specs.Scan.{cut_text}
@@ -36,10 +36,17 @@ left_in (Some t) left = tile_left t left
 abbrev pub source_left : {S : Type 0} → (S → Option (List ℕ)) → TileSource S → Option (List ℕ)
 source_left left s = left_in s.tile (left s.source)
 
+-- no tile of it was asked for
+abbrev pub IsUncut : {S : Type 0} → TileSource S → Type 0
+IsUncut s = s.tile ≡ None
+
 -- how often a read failed since the source ended before its size
 abbrev pub lacks_in : Option Tile → ℕ
 lacks_in None = 0
 lacks_in (Some t) = t.lacks
+
+abbrev pub lacks : {S : Type 0} → TileSource S → ℕ
+lacks s = lacks_in s.tile
 
 -- its faults: those of the source under it, and each read at its end if that comes before its size
 abbrev pub source_faults : {S : Type 0} → (S → ℕ) → TileSource S → ℕ

@@ -1,9 +1,10 @@
 //! The front of a source: the text of the header.
 
-ghost use Rattle.std.specs.Prelude.{◌≡◌, ◌≤◌, ℕ, List, Option, Err, IfOk};
+ghost use Rattle.std.specs.Prelude.{◌≡◌, ◌≤◌, ◌+◌, ◌⊎◌, ℕ, List, Option, Err, IfErr, IfOk, IfSome, None, length};
 ghost use Rattle.std.specs.Io.KnownBytes.{Consumes, IsAtEnd};
 ghost use Rattle.par_io.specs.Faults.{Rose};
-ghost use Rattle.tile_source.specs.Header.{IsHeaded, IsMore};
+ghost use Rattle.tile_source.specs.Header.{EndsHere, EndsLate, HasTwo, IsHeaded, IsMore};
+ghost use Rattle.tile_source.specs.NoTiles.{IsNoHeader};
 ghost use Rattle.tile_source.specs.declared.header.NoTile.TheVariants as no;
 
 use par_io::{Failed, Source};
@@ -52,26 +53,43 @@ pub(crate) struct Headed {
 pub(crate) fn read_header<S: Source>(alloc: Global, source: &mut S) -> Result<Headed, NoTile>
     ensures read { IfOk result (λ h. Consumes (S.left source.old) (S.left source.new) h.text.items) }
     ensures headed { IfOk result (λ h. IsHeaded h.text.items h.end (S.left source.new)) }
+    ensures two { IfOk result (λ h. HasTwo h.text.items h.end (S.left source.new)) }
+    ensures why { IfErr result (λ why. IfSome (S.left source.old) (λ bytes. IsNoHeader bytes why)) }
     ensures read_fault { result ≡ Err no.ReadFault → Rose (S.faults source.old) (S.faults source.new) }
     ensures faults { S.faults source.old ≤ S.faults source.new }
 {
     let mut text = Vec::new(alloc);
     let mut next = PIECE;
-    'reads: while text.len() <= MOST_RECORD_BYTES {
+    'reads: while text.len() <= MOST_RECORD_BYTES + 1 {
         let count = read_more(source, &mut text)?;
         if count == 0 {
             return Ok(all_read(text));
         }
         if text.len() >= next {
             next = 2 * text.len();
-            if let Some(end) = header_end(text.as_slice()) {
-                if text.len() - end >= 2 {
-                    return Ok(Headed { text, end });
-                }
+            if let Some(end) = early_end(text.as_slice()) {
+                return Ok(Headed { text, end });
             }
         }
     }
-    Err(NoTile::LongHeader)
+    match early_end(text.as_slice()) {
+        Some(end) => Ok(Headed { text, end }),
+        None => Err(NoTile::LongHeader),
+    }
+}
+
+/// The end of the header of a text, if at least two bytes come after it.
+fn early_end(text: &[u8]) -> Option<usize>
+    ensures ends { IfSome result (EndsHere text.now) }
+    ensures two { IfSome result (λ end. end + 2 ≤ length text.now) }
+    ensures late { result ≡ None → EndsLate text.now }
+{
+    let end = header_end(text)?;
+    if text.len() - end >= 2 {
+        Some(end)
+    } else {
+        None
+    }
 }
 
 /// All that a source had.
@@ -93,6 +111,7 @@ fn read_more<S: Source>(source: &mut S, text: &mut Vec<u8>) -> Result<usize, NoT
     ensures more { IfOk result (IsMore (S.left source.old) (S.left source.new) text.old.items text.new.items) }
     ensures few { IfOk result (λ n. n ≤ PIECE) }
     ensures end { IfOk result (λ n. n ≡ 0 → IsAtEnd (S.left source.new)) }
+    ensures why { IfErr result (λ why. (why ≡ no.ReadFault) ⊎ (why ≡ no.Memory)) }
     ensures read_fault { result ≡ Err no.ReadFault → Rose (S.faults source.old) (S.faults source.new) }
     ensures faults { S.faults source.old ≤ S.faults source.new }
 {

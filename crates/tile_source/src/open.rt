@@ -1,9 +1,10 @@
 //! Where a tile begins.
 
-ghost use Rattle.std.specs.Prelude.{◌≡◌, ◌≤◌, ◌⊎◌, Err, IfOk, IfSome, None, false, length, take, true};
+ghost use Rattle.std.specs.Prelude.{◌≡◌, ◌≤◌, ◌⊎◌, Err, IfErr, IfOk, IfSome, None, false, length, take, true};
 ghost use Rattle.par_io.specs.Faults.{Rose};
 ghost use Rattle.tile_source.specs.Begins.{EndsInRecord, IsLineEnd};
-ghost use Rattle.tile_source.specs.Finding.{HasBegun, OpensAt, OpensTo};
+ghost use Rattle.tile_source.specs.Finding.{HasBegun, HasEnded, OpensAt, OpensTo};
+ghost use Rattle.tile_source.specs.NoTiles.{IsNoTile, NoLineEnd};
 ghost use Rattle.tile_source.specs.declared.header.NoTile.TheVariants as no;
 
 use crate::bytes::Bytes;
@@ -46,6 +47,7 @@ pub(crate) struct Opened {
 /// Reads the header, and up to where the tile begins.
 pub(crate) fn open<S: Source>(alloc: Global, source: &mut S, span: Span) -> Result<Opened, NoTile>
     ensures opens { IfOk result (λ o. IfSome (S.left source.old) (λ bytes. OpensTo span bytes o.begin o.tile (S.left source.new))) }
+    ensures why { IfErr result (λ why. IfSome (S.left source.old) (λ bytes. IsNoTile span bytes why)) }
     ensures read_fault { result ≡ Err no.ReadFault → Rose (S.faults source.old) (S.faults source.new) }
     ensures faults { S.faults source.old ≤ S.faults source.new }
     ensures lacks { IfOk result (λ o. o.tile.lacks ≡ 0) }
@@ -67,7 +69,10 @@ pub(crate) fn open<S: Source>(alloc: Global, source: &mut S, span: Span) -> Resu
         return Err(NoTile::NoHeader);
     };
     let mut begin = Cut::new(span.from, span.from.max(end as u64), span.size);
-    let ahead = find_begin(alloc, source, &after[line_end..], &mut begin)?;
+    let ahead = match find_begin(alloc, source, &after[line_end..], &mut begin) {
+        Ok(ahead) => ahead,
+        Err(why) => return Err(why),
+    };
     Ok(tile_from(header, ahead, begin.at, span))
 }
 
@@ -91,15 +96,18 @@ fn tile_from(header: Vec<u8>, ahead: Vec<u8>, at: u64, span: Span) -> Opened
 /// Whether some bytes end with one that ends no line. A text of one record that can be cut behind it, and ends so, is the only one that
 /// a source begins with.
 fn ends_in_record(bytes: &[u8]) -> bool
-    ensures { result ≡ true → EndsInRecord bytes.now }
+    ensures yes { result ≡ true → EndsInRecord bytes.now }
+    ensures no { result ≡ false → EndsInRecord bytes.now → ⊥ }
 {
     !bytes.is_empty() && !ends_line(bytes[bytes.len() - 1])
 }
 
-/// How many bytes the end of the header's line has, if these begin with one: a line feed, maybe after a carriage return.
+/// How many bytes the end of the header's line has, if these begin with one: a line feed, maybe after a carriage return. Two bytes
+/// tell.
 fn line_end(bytes: &[u8]) -> Option<usize>
     ensures line { IfSome result (λ n. IsLineEnd (take n bytes.now)) }
     ensures within { IfSome result (λ n. n ≤ length bytes.now) }
+    ensures none { result ≡ None → NoLineEnd bytes.now }
 {
     if !bytes.is_empty() && bytes[0] == b'\n' {
         return Some(1);
@@ -119,6 +127,8 @@ fn find_begin<S: Source>(
 ) -> Result<Vec<u8>, NoTile>
     requires { begin.old.is_done ≡ false }
     ensures begun { IfOk result (λ rest. HasBegun ahead.now (S.left source.old) (S.left source.new) begin.old.at begin.new.at rest.items) }
+    ensures early { result ≡ Err no.Short → HasEnded ahead.now (S.left source.old) (S.left source.new) begin.old.at begin.old.size }
+    ensures why { IfErr result (λ why. (why ≡ no.ReadFault) ⊎ ((why ≡ no.Memory) ⊎ (why ≡ no.Short))) }
     ensures read_fault { result ≡ Err no.ReadFault → Rose (S.faults source.old) (S.faults source.new) }
     ensures faults { S.faults source.old ≤ S.faults source.new }
 {

@@ -1,6 +1,6 @@
 //! A source of which a tile may be asked.
 
-ghost use Rattle.std.specs.Prelude.{◌≡◌, ◌<◌, ◌≤◌, ◌↔◌, Err, IfOk, IfSome, IsTrue, None};
+ghost use Rattle.std.specs.Prelude.{◌≡◌, ◌<◌, ◌≤◌, ◌↔◌, Err, IfErr, IfOk, IfSome, IsTrue};
 ghost use Rattle.par_io.specs.Faults.{Rose};
 ghost use Rattle.tile_source.specs.declared.header.NoTile.TheVariants as no;
 
@@ -19,11 +19,12 @@ pub struct TileSource<S> {
 
 impl<S: Source> TileSource<S> {
     ghost use Rattle.tile_source.specs.Begins.{Begins};
-    ghost use Rattle.tile_source.specs.Left.{lacks_in, source_faults, source_left};
+    ghost use Rattle.tile_source.specs.Left.{IsUncut, lacks, source_faults, source_left};
+    ghost use Rattle.tile_source.specs.NoTiles.{IsNoTile};
 
     /// All of a source.
     pub fn new(source: S) -> TileSource<S>
-        ensures whole { result.tile ≡ None }
+        ensures whole { IsUncut result }
         ensures left { source_left S.left result ≡ S.left source }
         ensures faults { source_faults S.faults result ≡ S.faults source }
     {
@@ -32,8 +33,9 @@ impl<S: Source> TileSource<S> {
 
     /// Reads the header, and up to where the tile begins, which it says. What is left is the header's text and the tile.
     pub fn begin(&mut self, alloc: Global, span: Span) -> Result<Begin, NoTile>
-        requires whole { self.old.tile ≡ None }
+        requires whole { IsUncut self.old }
         ensures begins { IfOk result (λ b. IfSome (source_left S.left self.old) (λ bytes. Begins span bytes b (source_left S.left self.new))) }
+        ensures why { IfErr result (λ why. IfSome (source_left S.left self.old) (λ bytes. IsNoTile span bytes why)) }
         ensures faults { source_faults S.faults self.old ≤ source_faults S.faults self.new }
         ensures read_fault { result ≡ Err no.ReadFault → Rose (source_faults S.faults self.old) (source_faults S.faults self.new) }
     {
@@ -44,7 +46,7 @@ impl<S: Source> TileSource<S> {
 
     /// Whether a read failed since the source had ended before its size.
     pub fn is_short(&self) -> bool
-        ensures { IsTrue result ↔ (0 < lacks_in self.now.tile) }
+        ensures { IsTrue result ↔ (0 < lacks self.now) }
     {
         match &self.tile {
             Some(tile) => tile.lacks > 0,

@@ -10,4 +10,4 @@ invariant-reads g l = record {
 }
 
 abbrev pub decreases-reads : goal.decreases-reads
-decreases-reads g l = MOST_RECORD_BYTES + 1 - vec_len l.text
+decreases-reads g l = MOST_RECORD_BYTES + 2 - vec_len l.text

@@ -25,5 +25,7 @@ reads-preserved g c =
       on = c.if-begin-2.false;
       passed = passed-piece c.args.begin.now.at c.reads.begin c.pass-passed-in-reads.new.self c.args.ahead.now xs c.pass-passed-in-reads.result (left c.args.source.now) (left c.reads.source) (left c.read.new.self)
           c.reads.invariant.passed c.in_ok-count.ensures.bytes.0 c.pass-passed-in-reads.ensures c.if-begin-2.false;
+      size = c.pass-passed-in-reads.ensures.size ∙ c.reads.invariant.size;
+      big = c.reads.invariant.big;
       faults = omega (arith, c.reads.invariant.faults, c.in_ok-count.ensures.cause.kept);
     }
