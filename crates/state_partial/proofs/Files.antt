@@ -1,19 +1,21 @@
 -- The file of what was read.
-use Rattle.std.proofs.Common.{inl, ◌≡◌, ◌<◌, ◌≤◌, ◌^◌, ◌||◌, ◌∷◌, ◌∙◌, ℕ, Bool, true, false, List, [], All, Option, None, Some, IfSome, ap, arith, length, refl, subst, sym}
+use Rattle.std.proofs.Common.{inl, inr, ◌≡◌, ◌<◌, ◌≤◌, ◌^◌, ◌||◌, ◌∷◌, ◌∙◌, ℕ, Bool, true, false, List, [], All, Option, None, Some, ap, arith, length, refl, subst, sym}
 use Rattle.std.specs.Bool.{OnTrue}
 use Rattle.std.specs.FinMap as map
 use Rattle.std.specs.Prelude.{map as map_list}
+use Rattle.std.proofs.lemmas.List.Elements.{All-head}
 use Rattle.std.proofs.lemmas.List.Sorted.{length_permutation}
 use Rattle.csv_rows.specs.Records.{record_at, records_of}
 use Rattle.par_model.specs.Named.{bound_plan, missing_name}
 use Rattle.par_model.specs.Plan.{Plan}
 use Rattle.par_model.specs.declared.state.AggState.{AggState}
-use Rattle.partial_agg.specs.Groups.{GroupsByKey, key_cmp}
+use Rattle.partial_agg.specs.Groups.{AreGroups, GroupsByKey, group_of, key_cmp}
 use Rattle.partial_agg.specs.Listed.{group, listed}
 use Rattle.partial_agg.specs.declared.groups.Group.{Group as MapGroup}
 use Rattle.plan_spec.specs.Query.{Query}
 use Rattle.result_text.specs.Printable.{IsKeyOf}
-use Rattle.result_text.proofs.Uses.{printable-listed}
+use Rattle.result_text.proofs.Uses.{All-listed, printable-listed}
+use Rattle.row_blocks.specs.Blocks.{Table}
 use Rattle.state_blocks.specs.Blocks.{Group}
 use Rattle.state_front.specs.Front.{IsFront}
 use Rattle.state_head.specs.Cover.{IsCover}
@@ -31,13 +33,14 @@ use Rattle.state_whole.specs.Adding.{IsShapeOf}
 use Rattle.state_whole.specs.Files.{IsStateFile, StateFile, file_bytes, tuples_in}
 use Rattle.state_whole.specs.Sums.{has_refused, is_refused}
 use Rattle.state_whole.specs.declared.adding.Shape.{Shape}
-use Rattle.state_partial.specs.Parts.{IsPartText}
+use Rattle.state_partial.specs.Parts.{IsFileAt, IsPartText, SaysNothing}
+use Rattle.state_partial.specs.Places.{AreRead, IsCoverOf}
 use Rattle.state_partial.specs.Reads.{AreRowsOf, IsPartRead}
-use Rattle.state_law.specs.Sources.{whole_place}
 use Rattle.state_law.specs.Told.{GroupsAreTold}
 use Rattle.state_law.specs.Truth.{IsReadOf}
 use Rattle.state_partial.specs.Words.{Asked, asked_in}
 use Rattle.state_partial.specs.declared.reading.Part.{Part}
+use Rattle.state_partial.proofs.Found.{one_record}
 
 -- what holds if a test succeeds
 pub on_true : {P : Type 0} (b : Bool) → b ≡ true → OnTrue b P → P
@@ -80,9 +83,19 @@ keys_read query from p read s plan shape header is same of_shape =
 
 -- ---- the file
 
-module _ (query : Query) (header : List (List ℕ)) (bytes : List ℕ) (shape : Shape) (of_shape : IsShapeOf (bound_plan header query.plan) shape) (source : ℕ) (f : StateFile) where
-  read_by : (rows : Rows) (m : GroupsByKey) → AreRowsOf query header (Some bytes) rows m → f.preface.cover ≡ record { place = whole_place source bytes; rows = rows } ∷ [] → AreTuplesOf shape (listed m) (tuples_in f)
-      → IsReadOf query.plan header (whole_place source bytes) bytes f
+-- no group of no rows
+none_first : (plan : Plan) (groups : List MapGroup) → All (λ (g : MapGroup). group_of plan [] g.key ≡ Some g.state) groups → groups ≡ []
+none_first plan [] all = refl
+none_first plan (g ∷ groups) all =
+    let one = All-head (λ (g : MapGroup). group_of plan [] g.key ≡ Some g.state) g groups all in
+    cc one
+
+none_grouped : (plan : Plan) (rows : Table) (m : GroupsByKey) → rows ≡ [] → AreGroups plan rows m → listed m ≡ []
+none_grouped plan rows m none are = none_first plan (listed m) (All-listed plan [] m (subst (λ (rs : Table). AreGroups plan rs m) none are))
+
+module _ (query : Query) (header : List (List ℕ)) (read : List ℕ) (shape : Shape) (of_shape : IsShapeOf (bound_plan header query.plan) shape) (p : Place) (f : StateFile) where
+  read_by : (rows : Rows) (m : GroupsByKey) → AreRowsOf query header (Some read) rows m → f.preface.cover ≡ record { place = p; rows = rows } ∷ [] → AreTuplesOf shape (listed m) (tuples_in f)
+      → IsReadOf query.plan header p read f
   read_by (Counted many) m are cover tuples = record {
     rows = are.rows;
     records = are.all;
@@ -99,6 +112,31 @@ module _ (query : Query) (header : List (List ℕ)) (bytes : List ℕ) (shape : 
     are_told = are.first.first;
     tuples = no_tuples shape (listed m) (tuples_in f) (none_listed m are.none) tuples;
   }
+
+  -- of no bytes there are no rows
+  nothing_by : (rows : Rows) (m : GroupsByKey) → AreRowsOf query header (Some read) rows m → length (records_of read) ≤ 1 → p.from ≡ p.to → f.preface.cover ≡ [] → AreTuplesOf shape (listed m) (tuples_in f)
+      → SaysNothing header p read f
+  nothing_by (Counted many) m are few none cover tuples =
+      let rows : are.rows ≡ [] = nil_of_length are.rows (omega (arith, ap length are.all, few)) in
+      record {
+        none = none;
+        records = are.all ∙ ap (λ (rs : Table). header ∷ rs) rows;
+        cover = cover;
+        tuples = no_tuples shape (listed m) (tuples_in f) (none_grouped (bound_plan header query.plan) are.rows m rows are.are) tuples;
+      }
+  nothing_by (Refused why) m are few none cover tuples =
+      let rows : are.first.rows ≡ [] = nil_of_length are.first.rows (omega (arith, ap length are.first.are, few)) in
+      record {
+        none = none;
+        records = are.first.are ∙ ap (λ (rs : Table). header ∷ rs) rows;
+        cover = cover;
+        tuples = no_tuples shape (listed m) (tuples_in f) (none_listed m are.none) tuples;
+      }
+
+  file_at : (rows : Rows) (m : GroupsByKey) → AreRowsOf query header (Some read) rows m → IsCoverOf p rows f.preface.cover → (p.from ≡ p.to → 0 < p.size → length (records_of read) ≤ 1) → AreTuplesOf shape (listed m) (tuples_in f)
+      → IsFileAt query.plan header p read f
+  file_at rows m are (inl is) few tuples = inl (is.0, read_by rows m are is.1 tuples)
+  file_at rows m are (inr is) few tuples = inr (nothing_by rows m are (few is.0 is.1) is.0 is.2 tuples)
 
 -- ---- that a reader takes it
 
@@ -120,8 +158,12 @@ or_false : (b : Bool) → (b || false) ≡ true → b ≡ true
 or_false true e = refl
 or_false false e = e
 
+refused_in : (p : Place) (rows : Rows) (cover : List Stretch) → IsCoverOf p rows cover → has_refused cover ≡ true → is_refused rows ≡ true
+refused_in p rows cover (inl is) e = or_false (is_refused rows) (sym (ap has_refused is.1) ∙ e)
+refused_in p rows cover (inr is) e = let bad : false ≡ true = sym (ap has_refused is.2) ∙ e in cc bad
+
 is_read : (query : Query) (header : List (List ℕ)) (from : Option (List ℕ)) (shape : Shape) (pre : Preface) (place : Place) (rows : Rows) (m : GroupsByKey) (groups : List MapGroup) (f : StateFile) → GroupsAreTold → SavedIsRead
-    → IsShapeOf (bound_plan header query.plan) shape → AreRowsOf query header from rows m → groups ≡ listed m → pre.cover ≡ record { place = place; rows = rows } ∷ [] → pre.keys ≡ record { low = []; high = [] }
+    → IsShapeOf (bound_plan header query.plan) shape → AreRowsOf query header from rows m → groups ≡ listed m → IsCoverOf place rows pre.cover → pre.keys ≡ record { low = []; high = [] }
     → IsFront pre → IsFileOf shape pre groups f → IsStateFile shape.columns shape.kinds.now f
 is_read query header from shape pre place rows m groups f law saved of_shape are same cover keys front is_file =
     saved shape pre groups f (record {
@@ -129,7 +171,7 @@ is_read query header from shape pre place rows m groups f law saved of_shape are
       told = subst (All (IsTold shape)) (sym same) (told_by query header shape of_shape law rows from m are);
       within = all_in shape.columns pre.keys groups keys;
       counted = λ some refused.
-          no_groups query header from rows m are (subst (λ (gs : List MapGroup). 0 < length gs) same some) (or_false (is_refused rows) (sym (ap has_refused cover) ∙ refused));
+          no_groups query header from rows m are (subst (λ (gs : List MapGroup). 0 < length gs) same some) (refused_in place rows pre.cover cover refused);
     }) is_file
 
 -- the front of a part
@@ -144,26 +186,20 @@ front_is pre words header some few cover keys short = record {
   short = short;
 }
 
--- the stretch of a part
-abbrev pub part_cover : ℕ → ℕ → Rows → List Stretch
-part_cover source size rows = record { place = record { source = source; from = 0; to = size; size = size }; rows = rows } ∷ []
-
 whole_is : (query : Query) (s : Subject) (plan : FilePlan) (header : List (List ℕ)) → header_of s ≡ header → IsPlanOf s plan → plan.plan ≡ query → missing_name header query.plan ≡ None
 whole_is query s plan header fields is same = subst (λ (q : Query). missing_name header q.plan ≡ None) same (subst (λ (h : List (List ℕ)). missing_name h plan.plan.plan ≡ None) fields is.whole)
 
-pub part_text : (words : List (List ℕ)) (asked : Asked) (query : Query) (from : Option (List ℕ)) (p : Part) (read : IsPartRead query from p) (pre : Preface) (plan : FilePlan) (shape : Shape) (groups : List MapGroup) (f : StateFile) (text : List ℕ)
-    → asked_in words ≡ Some asked → AskFor asked.words query → pre.subject.words ≡ asked.words → pre.subject.header ≡ p.header.items → pre.subject.sources ≡ asked.part.sources
-    → pre.cover ≡ part_cover asked.part.source p.size p.rows → pre.keys ≡ record { low = []; high = [] } → IsPlanOf pre.subject plan → plan.plan ≡ query → IsShapeOf plan.bound shape
-    → groups ≡ listed p.map → GroupsAreTold → SavedIsRead → AreWords pre.subject.words → length pre.subject.header ≤ 2 ^ 28 → asked.part.source < asked.part.sources → asked.part.sources < 2 ^ 32
-    → IsCover asked.part.sources pre.cover → length (head_bytes pre) ≤ 2 ^ 28 → IsFileOf shape pre groups f → text ≡ file_bytes shape.kinds.now f → IfSome from (λ bytes. IsPartText words bytes text)
-part_text words asked query None p read pre plan shape groups f text is_asked ask words_are header sources cover keys is same of_shape groups_are law saved fit_words fit_header below few is_cover short is_file is_text = tt
-part_text words asked query (Some bytes) p read pre plan shape groups f text is_asked ask words_are header sources cover keys is same of_shape groups_are law saved fit_words fit_header below few is_cover short is_file is_text =
-    let bound = bound_is query (Some bytes) p read pre.subject plan header is same in
-    let shape_is : IsShapeOf (bound_plan read.header query.plan) shape = subst (λ (b : Plan). IsShapeOf b shape) bound of_shape in
-    let place : f.preface.cover ≡ record { place = whole_place asked.part.source bytes; rows = p.rows } ∷ [] =
-    ap (λ (pre : Preface). pre.cover) is_file.preface_is ∙ (cover ∙ ap (λ (n : ℕ). part_cover asked.part.source n p.rows) read.size) in
+pub part_text : (words : List (List ℕ)) (asked : Asked) (query : Query) (bytes read : List ℕ) (p : Part) (part : IsPartRead query (Some read) p) (place : Place) (pre : Preface) (plan : FilePlan) (shape : Shape) (groups : List MapGroup)
+    (f : StateFile) (text : List ℕ) → asked_in words ≡ Some asked → AskFor asked.words query → AreRead asked.part.source asked.extent bytes place read → pre.subject.words ≡ asked.words → pre.subject.header ≡ p.header.items
+    → pre.subject.sources ≡ asked.part.sources → IsCoverOf place p.rows pre.cover → pre.keys ≡ record { low = []; high = [] } → IsPlanOf pre.subject plan → plan.plan ≡ query → IsShapeOf plan.bound shape → groups ≡ listed p.map
+    → GroupsAreTold → SavedIsRead → AreWords pre.subject.words → length pre.subject.header ≤ 2 ^ 28 → asked.part.source < asked.part.sources → asked.part.sources < 2 ^ 32 → IsCover asked.part.sources pre.cover
+    → length (head_bytes pre) ≤ 2 ^ 28 → IsFileOf shape pre groups f → text ≡ file_bytes shape.kinds.now f → IsPartText words bytes text
+part_text words asked query bytes read p part place pre plan shape groups f text is_asked ask are_read words_are header sources cover keys is same of_shape groups_are law saved fit_words fit_header below few is_cover short is_file is_text =
+    let bound = bound_is query (Some read) p part pre.subject plan header is same in
+    let shape_is : IsShapeOf (bound_plan part.header query.plan) shape = subst (λ (b : Plan). IsShapeOf b shape) bound of_shape in
+    let its : IsCoverOf place p.rows f.preface.cover = subst (λ (pre : Preface). IsCoverOf place p.rows pre.cover) (sym is_file.preface_is) cover in
     let front = front_is pre fit_words fit_header (omega (arith, sources, below)) (omega (arith, sources, few)) (subst (λ (n : ℕ). IsCover n pre.cover) (sym sources) is_cover) keys short in
-    let fields : header_of pre.subject ≡ read.header = ap (λ (l : List ℕ). record_at (records_of l) 0) header ∙ ap (λ (rs : List (List (List ℕ))). record_at rs 0) read.one in
+    let fields : header_of pre.subject ≡ part.header = ap (λ (l : List ℕ). record_at (records_of l) 0) header ∙ ap (λ (rs : Table). record_at rs 0) part.one in
     record {
       asked = asked;
       is_asked = is_asked;
@@ -171,16 +207,20 @@ part_text words asked query (Some bytes) p read pre plan shape groups f text is_
       is_part = record {
         query = query;
         ask_for = ask;
-        header = read.header;
-        whole = whole_is query pre.subject plan read.header fields is same;
-        read = read_by query read.header bytes shape shape_is asked.part.source f p.rows p.map read.are place (subst (λ (gs : List MapGroup). AreTuplesOf shape gs (tuples_in f)) groups_are is_file.are);
+        header = part.header;
+        whole = whole_is query pre.subject plan part.header fields is same;
+        place = place;
+        read = read;
+        are_read = are_read;
+        is_file = file_at query part.header read shape shape_is place f p.rows p.map part.are its (λ none some. one_record asked.part.source asked.extent bytes place read are_read none some)
+            (subst (λ (gs : List MapGroup). AreTuplesOf shape gs (tuples_in f)) groups_are is_file.are);
         words_are = ap (λ (pre : Preface). pre.subject.words) is_file.preface_is ∙ words_are;
-        header_is = ap (λ (pre : Preface). records_of pre.subject.header) is_file.preface_is ∙ (ap records_of header ∙ read.one);
+        header_is = ap (λ (pre : Preface). records_of pre.subject.header) is_file.preface_is ∙ (ap records_of header ∙ part.one);
         sources_are = ap (λ (pre : Preface). pre.subject.sources) is_file.preface_is ∙ sources;
         keys_are = ap (λ (pre : Preface). pre.keys) is_file.preface_is ∙ keys;
       };
       shape = shape;
       is_shape = shape_is;
-      is_file = is_read query read.header (Some bytes) shape pre (record { source = asked.part.source; from = 0; to = p.size; size = p.size }) p.rows p.map groups f law saved shape_is read.are groups_are cover keys front is_file;
+      is_file = is_read query part.header (Some read) shape pre place p.rows p.map groups f law saved shape_is part.are groups_are cover keys front is_file;
       is_text = is_text;
     }

@@ -1,6 +1,8 @@
 -- What the words of `partial` ask for.
-use Rattle.std.specs.Prelude.{◌==◌, ◌∷◌, [], ℕ, false, true, List, Option, Some, None, bytes_eq, codes, flat_map, if◌then◌else◌, length, nat_lt, option_and_then, option_map}
-use Rattle.std.specs.List.{after_first, before_first, list_any}
+use Rattle.std.specs.Prelude.{◌==◌, ◌&&◌, ◌∷◌, [], ℕ, false, true, List, Option, Some, None, bytes_eq, codes, flat_map, if◌then◌else◌, length, nat_le, nat_lt, option_and_then, option_map}
+use Rattle.std.specs.Char.{is_ascii_digit}
+use Rattle.std.specs.List.{after_first, before_first, list_all, list_any}
+use Rattle.std.specs.Str.Parse.{digits_value}
 use Rattle.clap.specs.Words.{App, new_app, with_rule}
 use Rattle.plan_spec.specs.Grammar.{number_in}
 use Rattle.plan_spec.specs.Options.{bare, is_command_line, option_of, repeated_of, value_of, values_of}
@@ -8,19 +10,23 @@ use Rattle.plan_spec.specs.Query.{number_given, text_of}
 use Rattle.plan_spec.specs.declared.plan.TheConstants.{MOST_WORKERS}
 use Rattle.state_file.specs.Text.{text_bytes}
 use Rattle.state_head.specs.Words.{Words}
+use Rattle.state_partial.specs.declared.words.Extent.{Extent}
+use Rattle.state_partial.specs.declared.words.Extent.TheVariants as extent
 use Rattle.state_partial.specs.declared.words.Given.{Given}
 use Rattle.state_partial.specs.declared.words.PartWords.{PartWords}
 use Rattle.state_partial.specs.declared.words.SourcePart.{SourcePart}
-use Rattle.state_partial.specs.declared.words.TheConstants.{MOST_SOURCES, WORKERS}
+use Rattle.state_partial.specs.declared.words.TheConstants.{MOST_SOURCES, OPEN_END, PAST_PLACES, WORKERS}
+use Rattle.tile_source.specs.declared.open.Span.{Span}
 
--- the words of a plan as a head has them, the number of workers, and which of how many sources the part is
+-- the words of a plan as a head has them, the number of workers, of which of how many sources the part is, and of which of its bytes
 pub record Asked : Type 0 where
   pub words : Words
   pub workers : ℕ
   pub part : SourcePart
+  pub extent : Extent
 
 abbrev pub asked_of : PartWords → Asked
-asked_of p = record { words = record { group = p.group.now; agg = p.agg.now; filter = p.filters.items; decimals = p.decimals.now }; workers = p.workers; part = p.part }
+asked_of p = record { words = record { group = p.group.now; agg = p.agg.now; filter = p.filters.items; decimals = p.decimals.now }; workers = p.workers; part = p.part; extent = p.extent }
 
 -- the options of a plan, as the crate clap has them: those of parstream
 abbrev pub plan_command : App
@@ -31,9 +37,9 @@ plan_command = with_rule (with_rule (with_rule (with_rule (with_rule (bare (new_
     (option_of (codes "workers") false))
     (option_of (codes "decimals") false)
 
--- and which source
+-- which source, and which bytes of it
 abbrev pub partial_command : App
-partial_command = with_rule plan_command (option_of (codes "source") false)
+partial_command = with_rule (with_rule (with_rule plan_command (option_of (codes "source") false)) (option_of (codes "bytes") false)) (option_of (codes "size") false)
 
 -- a text that has a byte; the empty one, if none is given
 abbrev pub text_given : Option (List ℕ) → Option (List ℕ)
@@ -55,20 +61,44 @@ abbrev pub source_given : Option (List ℕ) → Option SourcePart
 source_given None = Some (record { source = 0; sources = 1 })
 source_given (Some text) = source_in text
 
+-- a place in a source, in digits
+abbrev pub place_in : List ℕ → Option ℕ
+place_in text =
+    if nat_lt 0 (length text) && (list_all is_ascii_digit text && nat_lt (digits_value 10 text) PAST_PLACES)
+    then Some (digits_value 10 text) else None
+
+-- the bytes from a place up to another, of a source of a size: neither the second place nor the size is below the first
+abbrev pub span_by : Option ℕ → Option ℕ → Option ℕ → Option Span
+span_by from to size =
+    option_and_then (λ f. option_and_then (λ t. option_and_then (λ s. if nat_le f t && nat_le f s then Some (record { from = f; to = t; size = s }) else None) size) to) from
+
+-- the bytes `FROM-TO`, or those from `FROM` on
+abbrev pub span_in : List ℕ → List ℕ → Option Span
+span_in bytes size =
+    if list_any (λ byte. byte == 45) bytes then span_by (place_in (before_first (λ byte. byte == 45) bytes)) (place_in (after_first (λ byte. byte == 45) bytes)) (place_in size)
+    else span_by (place_in bytes) (Some OPEN_END) (place_in size)
+
+-- all bytes, if neither they nor the size are given; one of them needs the other
+abbrev pub extent_given : Option (List ℕ) → Option (List ℕ) → Option Extent
+extent_given None None = Some extent.Whole
+extent_given None (Some size) = None
+extent_given (Some bytes) None = None
+extent_given (Some bytes) (Some size) = option_map (λ span. extent.Tile span) (span_in bytes size)
+
 -- filters as a head has them
 abbrev pub filters_of : List (List ℕ) → List ℕ
 filters_of texts = flat_map text_bytes texts
 
 -- what all values ask for, if each is one
-abbrev pub asked_by : Option (List ℕ) → Option (List ℕ) → Option (List ℕ) → List ℕ → Option ℕ → Option SourcePart → Option Asked
-asked_by group agg decimals filters workers part =
-    option_and_then (λ g. option_and_then (λ a. option_and_then (λ d. option_and_then (λ w. option_map (λ p.
-    record { words = record { group = g; agg = a; filter = filters; decimals = d }; workers = w; part = p })
-    part) workers) decimals) agg) group
+abbrev pub asked_by : Option (List ℕ) → Option (List ℕ) → Option (List ℕ) → List ℕ → Option ℕ → Option SourcePart → Option Extent → Option Asked
+asked_by group agg decimals filters workers part which =
+    option_and_then (λ g. option_and_then (λ a. option_and_then (λ d. option_and_then (λ w. option_and_then (λ p. option_map (λ e.
+    record { words = record { group = g; agg = a; filter = filters; decimals = d }; workers = w; part = p; extent = e })
+    which) part) workers) decimals) agg) group
 
 -- what values ask for as they were given
 abbrev pub given_by : Given → Option Asked
-given_by g = asked_by (text_given (text_of g.group)) (text_given (text_of g.agg)) (text_given (text_of g.decimals)) g.filters.items (number_given MOST_WORKERS WORKERS (text_of g.workers)) (source_given (text_of g.source))
+given_by g = asked_by (text_given (text_of g.group)) (text_given (text_of g.agg)) (text_given (text_of g.decimals)) g.filters.items (number_given MOST_WORKERS WORKERS (text_of g.workers)) (source_given (text_of g.source)) (extent_given (text_of g.bytes) (text_of g.size))
 
 -- what the words after `partial` ask for, if they do: clap takes them, and each value reads
 unfoldable pub asked_in : List (List ℕ) → Option Asked
@@ -76,6 +106,7 @@ asked_in words =
     if is_command_line partial_command words
     then asked_by (text_given (value_of partial_command (codes "group") words)) (text_given (value_of partial_command (codes "agg") words)) (text_given (value_of partial_command (codes "decimals") words))
     (filters_of (values_of partial_command (codes "where") words)) (number_given MOST_WORKERS WORKERS (value_of partial_command (codes "workers") words)) (source_given (value_of partial_command (codes "source") words))
+    (extent_given (value_of partial_command (codes "bytes") words) (value_of partial_command (codes "size") words))
     else None
 
 -- the words after `partial`, if that is the first one

@@ -1,11 +1,12 @@
 //! The file of a part.
 
-ghost use Rattle.std.specs.Prelude.{◌≡◌, ◌<◌, ◌^◌, ◌⊎◌, ◌∷◌, [], ℕ, List, Option, IfErr, IfOk, IfSome, Some};
+ghost use Rattle.std.specs.Prelude.{◌≡◌, ◌<◌, ◌≤◌, ◌^◌, ◌⊎◌, [], ℕ, List, Option, IfErr, IfOk, Some, false, true};
 ghost use Rattle.state_head.specs.Cover.{AreRows, IsCover};
 ghost use Rattle.state_head.specs.Head.{subject_of};
 ghost use Rattle.state_head.specs.Words.{keys_of, words_of};
 ghost use Rattle.state_plan.specs.FilePlans.{AskFor, IsPlanOf};
 ghost use Rattle.state_partial.specs.Parts.{IsPartText};
+ghost use Rattle.state_partial.specs.Places.{AreRead, IsCoverOf, IsFilled, IsWithin};
 ghost use Rattle.state_partial.specs.Reads.{IsPartRead};
 ghost use Rattle.state_partial.specs.Words.{asked_in, asked_of};
 ghost use Rattle.state_partial.specs.declared.no_part.NoPart.TheVariants as no_part;
@@ -21,29 +22,35 @@ use state_head::{Head, KeyRange, Place, Rows, Stretch, Whole};
 use state_lanes::{kinds_of, lanes_of};
 use state_law::groups_are_told;
 use state_plan::FilePlan;
-use state_save::{push_file, saved_is_read};
+use state_runs::push_all;
+use state_save::saved_is_read;
 use state_writer::WriteError;
 use std::alloc::{AllocError, Global};
+use std::thread::Threads;
 use stream_groups::Stop;
 
-/// The file of a part, which is all of its source.
-pub(crate) fn file_of(
+/// The file of a part, which lies at this place of its source.
+pub(crate) fn file_of<R: Threads + Sync>(
+    rt: &R,
     alloc: Global,
     asked: &PartWords<'_>,
     plan: Plan,
     part: Part,
+    place: Place,
 ) -> Result<Vec<u8>, NoPart>
     requires ask { AskFor (asked_of asked.now).words plan }
     requires read { (from : Option (List ℕ)) × IsPartRead plan from part }
     requires part { asked.now.part.source < asked.now.part.sources }
-    ensures file { IfOk result (λ file. (words : List (List ℕ)) (from : Option (List ℕ)) → asked_in words ≡ Some (asked_of asked.now) → IsPartRead plan from part → IfSome from (λ bytes. IsPartText words bytes file.items)) }
+    requires place { IsWithin asked.now.part.source place }
+    ensures file { IfOk result (λ file. (words : List (List ℕ)) (bytes read : List ℕ) → asked_in words ≡ Some (asked_of asked.now) → AreRead asked.now.part.source asked.now.extent bytes place read
+        → IsPartRead plan (Some read) part → IsPartText words bytes file.items) }
     ensures why { IfErr result (λ why. (why ≡ no_part.Long) ⊎ (why ≡ no_part.Stopped stop.Memory)) }
 {
     let Part {
         header,
         rows,
         map,
-        size,
+        size: _,
     } = part;
     let whole = Whole {
         words: asked.plan_words(),
@@ -57,7 +64,7 @@ pub(crate) fn file_of(
     let Ok(plan) = file_plan(alloc, plan, whole) else {
         return Err(NoPart::Stopped(Stop::Memory));
     };
-    let Ok(cover) = cover_of(alloc, asked.part.source, asked.part.sources, size, rows) else {
+    let Ok(cover) = cover_of(alloc, place, asked.part.sources, rows) else {
         return Err(NoPart::Stopped(Stop::Memory));
     };
     let head = Head {
@@ -69,7 +76,8 @@ pub(crate) fn file_of(
     groups_are_told();
     saved_is_read();
     let mut file = Vec::new(alloc);
-    match push_file(alloc, &mut file, &head, &map.into_groups(), &plan.shape()) {
+    let threads = asked.workers as usize + 1;
+    match push_all(rt, alloc, &mut file, &head, map, &plan.shape(), threads) {
         Ok(()) => Ok(file),
         Err(WriteError::Memory) => Err(NoPart::Stopped(Stop::Memory)),
         Err(WriteError::Long) => Err(NoPart::Long),
@@ -86,30 +94,36 @@ fn all_keys<'a>() -> KeyRange<'a>
     }
 }
 
-/// The one stretch that is all bytes of a source.
+/// The one stretch at a place; none if it has no bytes, unless its source has none.
 fn cover_of(
     alloc: Global,
-    source: u32,
+    place: Place,
     sources: u32,
-    size: u64,
     rows: Rows,
 ) -> Result<Vec<Stretch>, AllocError>
-    requires below { source < sources }
+    requires below { place.source < sources }
+    requires order { place.from ≤ place.to }
+    requires within { place.to ≤ place.size }
     requires rows { AreRows rows }
     ensures is_cover { IfOk result (λ cover. IsCover sources cover.items) }
     ensures few { IfOk result (λ _. sources < 2 ^ 32) }
-    ensures cover { IfOk result (λ cover. cover.items ≡ record { place = record { source = source; from = 0; to = size; size = size }; rows = rows } ∷ []) }
+    ensures cover { IfOk result (λ cover. IsCoverOf place rows cover.items) }
 {
     let _sources = sources;
-    let place = Place {
-        source,
-        from: 0,
-        to: size,
-        size,
-    };
     let mut cover = Vec::new(alloc);
+    if is_empty(place) {
+        return Ok(cover);
+    }
     cover.push(Stretch { place, rows })?;
     Ok(cover)
+}
+
+/// Whether a place has no bytes, of a source that has some.
+fn is_empty(place: Place) -> bool
+    ensures yes { result ≡ true → (place.from ≡ place.to) × (0 < place.size) }
+    ensures no { result ≡ false → place.from ≤ place.to → IsFilled place }
+{
+    place.from == place.to && place.size > 0
 }
 
 /// The plan over the columns of a header that it was read with, which is one record and has them.

@@ -2,45 +2,75 @@
 
 ghost use Rattle.std.specs.Prelude.{◌≡◌};
 ghost use Rattle.answer_text.specs.Lines.{IsSaid};
-ghost use Rattle.state_partial.specs.NoPart.{no_part_says};
+ghost use Rattle.state_partial.specs.NoPart.{no_part_says, part_of_tile};
 ghost use Rattle.stream_groups.specs.Lines.{line};
 
-use answer_text::{MISUSED, TOO_LARGE, write_pieces};
+use answer_text::{MISUSED, READ_FAULT, TOO_LARGE, write_pieces};
 use par_io::Sink;
-use stream_groups::Stop;
+use stream_groups::{LONG_RECORD, Stop};
+use tile_source::NoTile;
 
 /// A file was written.
 pub const WRITTEN: u8 = 0;
 
-/// Why there is no file: the words ask for none; it is too long for a file of partial states; or as for a table, but for a refused row.
+/// How the form is called.
+const USAGE: &str =
+    "usage: parstream partial [--source I/N] [--bytes FROM[-TO] --size SIZE] [--group COLUMNS] --agg ITEMS .. < PART > STATES";
+
+/// Why there is no file: the words ask for none; it is too long for a file of partial states; the bytes of a tile do not come after a line
+/// that is the header, or that is too long; the source has fewer bytes than it is said to have, or more; or as for a table, but for a
+/// refused row.
 #[derive(Debug, Drop)]
 pub enum NoPart {
     Usage,
     Long,
+    NoLine,
+    LongHeader,
+    Short,
+    Grown,
     Stopped(Stop),
 }
 
 impl NoPart {
+    /// The reason for a tile that there is not.
+    pub(crate) fn of_tile(why: NoTile) -> NoPart
+        ensures { result ≡ part_of_tile why }
+    {
+        match why {
+            NoTile::ReadFault => NoPart::Stopped(Stop::ReadFault),
+            NoTile::NoHeader => NoPart::NoLine,
+            NoTile::LongHeader => NoPart::LongHeader,
+            NoTile::Short => NoPart::Short,
+            NoTile::Memory => NoPart::Stopped(Stop::Memory),
+        }
+    }
+
     /// Writes the line, and gives the status.
     pub(crate) fn end<E: Sink>(&self, err: &mut E) -> u8
         ensures said { IsSaid (E.taken err.old) (E.taken err.new) (E.faults err.old) (E.faults err.new) (line (no_part_says self.now).1) }
         ensures status { result ≡ (no_part_says self.now).0 }
     {
         match self {
-            NoPart::Usage => {
-                let _ = write_pieces(
-                    err,
-                    &[
-                        "parstream: usage: parstream partial [--source I/N] [--group COLUMNS] --agg ITEMS .. < PART > STATES\n",
-                    ],
-                );
-                MISUSED
-            }
-            NoPart::Long => {
-                let _ = write_pieces(err, &["parstream: too long for a file of states\n"]);
-                TOO_LARGE
-            }
+            NoPart::Usage => say(err, MISUSED, USAGE),
+            NoPart::Long => say(err, TOO_LARGE, "too long for a file of states"),
+            NoPart::NoLine => say(
+                err,
+                MISUSED,
+                "the bytes do not come after a line that is the header",
+            ),
+            NoPart::LongHeader => say(err, LONG_RECORD, "the header is longer than 67108864 bytes"),
+            NoPart::Short => say(err, READ_FAULT, "the source ends before its size"),
+            NoPart::Grown => say(err, READ_FAULT, "the source has more bytes than its size"),
             NoPart::Stopped(stop) => stop.end(err),
         }
     }
+}
+
+/// Writes a line, and gives the status that comes with it.
+fn say<E: Sink>(err: &mut E, status: u8, text: &str) -> u8
+    ensures said { IsSaid (E.taken err.old) (E.taken err.new) (E.faults err.old) (E.faults err.new) (line text.now) }
+    ensures status { result ≡ status }
+{
+    let _ = write_pieces(err, &["parstream: ", text, "\n"]);
+    status
 }

@@ -12,11 +12,11 @@ ghost use Rattle.stream_groups.specs.declared.stop.Stop.TheVariants as stop;
 ghost use Rattle.stream_groups.specs.declared.taken.Taken.TheVariants as amount;
 
 use crate::drain::drain;
-use crate::groups::one_map;
+use crate::groups::gathered_groups;
 use par_io::Source;
-use partial_agg::GroupMap;
 use plan_spec::{MOST_WORKERS, Plan};
 use state_head::{RefusedRow, Rows};
+use state_runs::AllGroups;
 use std::alloc::Global;
 use std::sync::Wait;
 use std::thread::Threads;
@@ -28,7 +28,7 @@ use stream_groups::{Progress, ReadGroups, RefusedRow as StoppedRow, Stop, Taken,
 pub(crate) struct Part {
     pub(crate) header: Vec<u8>,
     pub(crate) rows: Rows,
-    pub(crate) map: GroupMap,
+    pub(crate) map: AllGroups,
     pub(crate) size: u64,
 }
 
@@ -78,6 +78,7 @@ fn counted_part<R: Threads + Sync>(
     read: ReadGroups,
     taken: Taken,
 ) -> Result<Part, Stop>
+    requires { (query : Query) × (from : Option (List ℕ)) × AreGroupsOver query from read }
     ensures read { IfOk result (λ part. (query : Query) (from left : Option (List ℕ)) (before after : ℕ) → AreGroupsOver query from read → IsAtEnd left → Takes from left before after (amount.Bytes 0) taken → IsPartRead query from part) }
     ensures why { IfErr result (λ why. why ≡ stop.Memory) }
 {
@@ -90,7 +91,7 @@ fn counted_part<R: Threads + Sync>(
         rows,
         gathered,
     } = read;
-    let map = one_map(rt, alloc, gathered)?;
+    let map = gathered_groups(rt, alloc, gathered)?;
     Ok(Part {
         header,
         rows: Rows::Counted(rows),
@@ -110,7 +111,7 @@ fn refused_part(alloc: Global, row: StoppedRow, size: u64) -> Part
             cause: row.why.cause,
             item: row.why.item,
         }),
-        map: GroupMap::new(alloc),
+        map: AllGroups::none(alloc),
         size,
     }
 }

@@ -1,4 +1,4 @@
-//! The words of `partial`: the options of a plan, and which of how many sources the part is.
+//! The words of `partial`: the options of a plan, which of how many sources the part is of, and which bytes of that source.
 //!
 //! They are read by the crate `clap`, as parstream's words are (`plan_spec`), so an option is written in each way that it has there.
 
@@ -8,7 +8,7 @@ ghost use Rattle.clap.specs.Words.{app_of, found_of, is_simple_and_free, matches
 ghost use Rattle.plan_spec.specs.Options.{is_command_line, option_of, value_of, values_of};
 ghost use Rattle.plan_spec.specs.Query.{number_given, text_of};
 ghost use Rattle.state_head.specs.Words.{words_of};
-ghost use Rattle.state_partial.specs.Words.{asked_in, asked_of, filters_of, given_by, partial_command, plan_command, source_given, source_in, text_given};
+ghost use Rattle.state_partial.specs.Words.{asked_in, asked_of, extent_given, filters_of, given_by, partial_command, place_in, plan_command, source_given, source_in, span_by, span_in, text_given};
 
 use clap::error::ErrorKind;
 use clap::{Arg, ArgAction, ArgMatches, Command};
@@ -16,12 +16,22 @@ use plan_spec::{MOST_WORKERS, number};
 use state_file::push_text;
 use state_head::PlanWords;
 use std::alloc::{AllocError, Global};
+use tile_source::Span;
 
 /// The most sources.
 const MOST_SOURCES: u32 = 65_536;
 
 /// The number of workers if the words ask for none.
 const WORKERS: u32 = 2;
+
+/// Places in a source that words can name are below this.
+const PAST_PLACES: u64 = 1_000_000_000_000_000_000;
+
+/// A number from this on would be no such place with another digit.
+const FULL_PLACE: u64 = 100_000_000_000_000_000;
+
+/// Where a tile is to end that has no such place: at the end of the source.
+const OPEN_END: u64 = u64::MAX;
 
 /// The values of the options, each as it was given. Those of `--where` are texts one after another.
 #[derive(Drop)]
@@ -32,6 +42,8 @@ pub(crate) struct Given<'a> {
     filters: Vec<u8>,
     workers: Option<&'a str>,
     source: Option<&'a str>,
+    bytes: Option<&'a str>,
+    size: Option<&'a str>,
 }
 
 /// What the words ask for. The text of an option that was not given is empty.
@@ -43,6 +55,14 @@ pub(crate) struct PartWords<'a> {
     filters: Vec<u8>,
     pub(crate) workers: u32,
     pub(crate) part: SourcePart,
+    pub(crate) extent: Extent,
+}
+
+/// Which bytes of a source: all, or a tile.
+#[derive(Clone, Copy, Drop)]
+pub(crate) enum Extent {
+    Whole,
+    Tile(Span),
 }
 
 /// A source, and how many there are.
@@ -82,12 +102,15 @@ impl<'a> PartWords<'a> {
             filters,
             workers,
             source,
+            bytes,
+            size,
         } = given;
         let group = text_given(group)?;
         let agg = text_given(agg)?;
         let decimals = text_given(decimals)?;
         let workers = workers_given(workers)?;
         let part = source_given(source)?;
+        let extent = extent_given(bytes, size)?;
         Some(PartWords {
             group,
             agg,
@@ -95,6 +118,7 @@ impl<'a> PartWords<'a> {
             filters,
             workers,
             part,
+            extent,
         })
     }
 
@@ -162,6 +186,59 @@ fn source_of(text: &str) -> Option<SourcePart>
     }
 }
 
+/// All bytes of a source, if neither the bytes nor the size is given. One needs the other.
+fn extent_given(bytes: Option<&str>, size: Option<&str>) -> Option<Extent>
+    ensures { result ≡ extent_given (text_of bytes.entry) (text_of size.entry) }
+{
+    match (bytes, size) {
+        (None, None) => Some(Extent::Whole),
+        (Some(bytes), Some(size)) => span_of(bytes, size).map(Extent::Tile),
+        _ => None,
+    }
+}
+
+/// The bytes `FROM-TO`, or those from `FROM` on, of a source of so many.
+fn span_of(bytes: &str, size: &str) -> Option<Span>
+    ensures { result ≡ span_in bytes.now size.now }
+{
+    match bytes.split_once('-') {
+        Some((from, to)) => span_between(place_of(from), place_of(to), place_of(size)),
+        None => span_between(place_of(bytes), Some(OPEN_END), place_of(size)),
+    }
+}
+
+/// The bytes between two places, of which neither the second nor the size comes before the first.
+fn span_between(from: Option<u64>, to: Option<u64>, size: Option<u64>) -> Option<Span>
+    ensures { result ≡ span_by from to size }
+{
+    let from = from?;
+    let to = to?;
+    let size = size?;
+    if from <= to && from <= size {
+        Some(Span { from, to, size })
+    } else {
+        None
+    }
+}
+
+/// The place in a source that a text says in digits.
+fn place_of(text: &str) -> Option<u64>
+    ensures { result ≡ place_in text.now }
+{
+    let digits = text.as_bytes();
+    if digits.is_empty() {
+        return None;
+    }
+    let mut value: u64 = 0;
+    'digits: for digit in digits {
+        if !digit.is_ascii_digit() || value >= FULL_PLACE {
+            return None;
+        }
+        value = value * 10 + u64::from(*digit - b'0');
+    }
+    Some(value)
+}
+
 /// What the words give for each option, if they are such a command line.
 fn given_values<'a>(alloc: Global, words: &'a [String]) -> Result<Option<Given<'a>>, AllocError>
     ensures none { IfOk result (λ found. found ≡ None → is_command_line partial_command (texts words.now) ≡ false) }
@@ -172,6 +249,8 @@ fn given_values<'a>(alloc: Global, words: &'a [String]) -> Result<Option<Given<'
     ensures filters { IfOk result (λ found. IfSome found (λ g. g.filters.items ≡ filters_of (values_of partial_command (codes "where") (texts words.now)))) }
     ensures workers { IfOk result (λ found. IfSome found (λ g. text_of g.workers ≡ value_of partial_command (codes "workers") (texts words.now))) }
     ensures source { IfOk result (λ found. IfSome found (λ g. text_of g.source ≡ value_of partial_command (codes "source") (texts words.now))) }
+    ensures bytes { IfOk result (λ found. IfSome found (λ g. text_of g.bytes ≡ value_of partial_command (codes "bytes") (texts words.now))) }
+    ensures size { IfOk result (λ found. IfSome found (λ g. text_of g.size ≡ value_of partial_command (codes "size") (texts words.now))) }
 {
     let command = partial(alloc)?;
     let found = matches_in(command, words)?;
@@ -186,6 +265,8 @@ fn given_values<'a>(alloc: Global, words: &'a [String]) -> Result<Option<Given<'
         filters,
         workers: matches.get_str("workers"),
         source: matches.get_str("source"),
+        bytes: matches.get_str("bytes"),
+        size: matches.get_str("size"),
     }))
 }
 
@@ -217,12 +298,14 @@ fn matches_in<'a>(
     }
 }
 
-/// The command: the options of a plan, and which source.
+/// The command: the options of a plan, which source, and which of its bytes.
 fn partial<'a>(alloc: Global) -> Result<Command<'a>, AllocError>
     ensures { IfOk result (λ c. app_of c ≡ partial_command) }
 {
     let plan = plan_options(alloc)?;
-    with_option(alloc, plan, "source", false)
+    let sourced = with_option(alloc, plan, "source", false)?;
+    let cut = with_option(alloc, sourced, "bytes", false)?;
+    with_option(alloc, cut, "size", false)
 }
 
 /// A command with the five options of parstream, of which `--where` may be repeated.

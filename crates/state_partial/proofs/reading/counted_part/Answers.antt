@@ -1,8 +1,11 @@
-use Rattle.std.proofs.Common.{length, subst}
+use Rattle.std.proofs.Common.{length, rules, subst}
 use Rattle.stream_groups.specs.Taken.{Takes}
 use Rattle.stream_groups.specs.declared.taken.Taken.TheVariants as amount
 use Rattle.state_partial.proofs.Taken.{counted_rows, taken_all}
 use Rattle.state_partial.proofs.reading.counted_part.Goals as goal
+
+pub gathered_groups-requires : goal.gathered_groups-requires
+gathered_groups-requires g c = let over = c.requires.2 in (search rules, (c.args.read.bound, (length over.header, over.rows, over.few, over.groups)))
 
 pub returns-clause-read : goal.returns-clause-read
 returns-clause-read g c = λ query from left before after over end takes. record {

@@ -1,7 +1,10 @@
-use Rattle.std.proofs.Common.{subst}
+use Rattle.std.proofs.Common.{rules, subst}
 use Rattle.std.proofs.lemmas.Result.{IfOk-weaker}
 use Rattle.stream_groups.specs.Stops.{Tells}
 use Rattle.state_partial.proofs.reading.read_part.Goals as goal
+
+pub counted_part-requires : goal.counted_part-requires
+counted_part-requires g c = (search rules, (c.args.plan.now, g.S.Source.left c.args.source.now, c.in-Ok.ensures.groups))
 
 pub returns-in-Ok-clause-read : goal.returns-in-Ok-clause-read
 returns-in-Ok-clause-read g c =

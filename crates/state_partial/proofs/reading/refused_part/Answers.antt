@@ -8,6 +8,6 @@ returns c = λ query from names size.
     record {
       header = names.header;
       one = names.one;
-      are = record { none = c.new.ensures.empty; first = refused_rows_of query from r.row r.line r.why r.header.items (string_bytes r.said) names };
+      are = record { none = c.none.ensures; first = refused_rows_of query from r.row r.line r.why r.header.items (string_bytes r.said) names };
       size = size;
     }

@@ -32,6 +32,12 @@ returns-clause-workers c = c.get_str-4.ensures ∙ first_value-rows (found_of c.
 pub returns-clause-source : goal.returns-clause-source
 returns-clause-source c = c.get_str-5.ensures ∙ first_value-rows (found_of c.in-Some.matches) (codes "source") ∙ ap (first_of (codes "source")) (subst (λ (o : Option ArgMatches). IfSome o (λ m. rows_of (found_of m) ≡ matches_of (app_of c.in_ok-command.command) (texts c.args.words.now))) c.in-Some.is c.in_ok-found.ensures.rows) ∙ ap (λ (a : App). value_of a (codes "source") (texts c.args.words.now)) c.in_ok-command.ensures
 
+pub returns-clause-bytes : goal.returns-clause-bytes
+returns-clause-bytes c = c.get_str-6.ensures ∙ first_value-rows (found_of c.in-Some.matches) (codes "bytes") ∙ ap (first_of (codes "bytes")) (subst (λ (o : Option ArgMatches). IfSome o (λ m. rows_of (found_of m) ≡ matches_of (app_of c.in_ok-command.command) (texts c.args.words.now))) c.in-Some.is c.in_ok-found.ensures.rows) ∙ ap (λ (a : App). value_of a (codes "bytes") (texts c.args.words.now)) c.in_ok-command.ensures
+
+pub returns-clause-size : goal.returns-clause-size
+returns-clause-size c = c.get_str-7.ensures ∙ first_value-rows (found_of c.in-Some.matches) (codes "size") ∙ ap (first_of (codes "size")) (subst (λ (o : Option ArgMatches). IfSome o (λ m. rows_of (found_of m) ≡ matches_of (app_of c.in_ok-command.command) (texts c.args.words.now))) c.in-Some.is c.in_ok-found.ensures.rows) ∙ ap (λ (a : App). value_of a (codes "size") (texts c.args.words.now)) c.in_ok-command.ensures
+
 given : (o : Option (Bor (List (Bor (List ℕ))))) (d : Bor (List (Bor (List ℕ)))) → d.now ≡ [] → map (λ s. s.now) (unwrap_or o d).now ≡ unwrap_or (option_map (λ s. map (λ v. v.now) s.now) o) []
 given None d none = ap (map (λ s. s.now)) none
 given (Some s) d none = refl
