@@ -1,0 +1,12 @@
+pub mod Bytes
+pub mod Joins
+pub mod Walks
+pub mod FieldTexts
+pub mod Rows
+pub mod Records
+pub mod Plain
+pub mod Points
+pub mod Widths
+pub mod Values
+pub mod Fronts
+pub mod Fronted

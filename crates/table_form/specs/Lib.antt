@@ -1,0 +1,9 @@
+pub mod Between
+pub mod Reading
+pub mod Tsv
+pub mod Number
+pub mod Json
+pub mod Aligned
+pub mod Forms
+pub mod Sizes
+pub mod Values

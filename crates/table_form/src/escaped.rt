@@ -1,0 +1,146 @@
+//! Bytes of a field as `shown_text` shows them, but all of them and without quotes: a character past ASCII as it is, unless it
+//! is a control character or changes the order of reading; of the other bytes those that print, quotes and backslashes after a
+//! backslash, and all others as `\x` and two digits. `shown_text` itself shows at most 40 bytes of a field, in quotes.
+
+ghost use Rattle.std.specs.Prelude.{◌≡◌, ◌<◌, ◌≤◌, ◌++◌, ◌∷◌, [], IfOk, IfSome, is_some, length, option_map, slice_index, string_bytes, take};
+ghost use Rattle.std.specs.Char.{digit_char};
+ghost use Rattle.shown_text.specs.Shown.{byte_text, front_text, is_control, is_mark, is_text_front, plain_size, shown_after, step};
+
+use std::alloc::AllocError;
+use std::str;
+
+/// Puts what is shown of all these bytes at the end of a text. If memory runs out a part of it may be there.
+pub(crate) fn put_escaped(text: &mut String, bytes: &[u8]) -> Result<(), AllocError>
+    ensures { IfOk result (λ _. string_bytes text.new ≡ string_bytes text.old ++ shown_after 0 bytes.now) }
+{
+    let mut rest = bytes;
+    'fronts: while !rest.is_empty() {
+        let size = put_front(text, rest)?;
+        rest = &rest[size..];
+    }
+    Ok(())
+}
+
+/// Puts what is shown of the front of bytes, and returns how many bytes that was.
+fn put_front(text: &mut String, bytes: &[u8]) -> Result<usize, AllocError>
+    requires { 0 < length bytes.now }
+    ensures text { IfOk result (λ _. string_bytes text.new ≡ string_bytes text.old ++ front_text bytes.now) }
+    ensures size { IfOk result (λ size. size ≡ step bytes.now) }
+    ensures some { IfOk result (λ size. 0 < size) }
+    ensures within { IfOk result (λ size. size ≤ length bytes.now) }
+{
+    match plain_front(bytes) {
+        Some(front) => {
+            text.push_str(front)?;
+            Ok(front.len())
+        }
+        None => {
+            put_byte(text, bytes[0])?;
+            Ok(1)
+        }
+    }
+}
+
+/// The character past ASCII that bytes begin with, if it is shown as it is.
+fn plain_front(bytes: &[u8]) -> Option<&str>
+    requires { 0 < length bytes.now }
+    ensures front { option_map (λ front. front.now) result ≡ option_map (λ size. take size bytes.now) (plain_size bytes.now) }
+    ensures size { option_map (λ front. length front.now) result ≡ plain_size bytes.now }
+    ensures some { IfSome result (λ front. 0 < length front.now) }
+    ensures within { IfSome result (λ front. length front.now ≤ length bytes.now) }
+{
+    if bytes[0] < 128 || (is_control(bytes) || is_mark(bytes)) {
+        return None;
+    }
+    if let Some(front) = text_front(bytes, 2) {
+        return Some(front);
+    }
+    if let Some(front) = text_front(bytes, 3) {
+        return Some(front);
+    }
+    text_front(bytes, 4)
+}
+
+/// The first few of some bytes, if they are text.
+#[tactic(auto, using(crate::proofs::Fronted::is_text, crate::proofs::Fronted::is_no_text))]
+fn text_front(bytes: &[u8], size: usize) -> Option<&str>
+    ensures some { is_some result ≡ is_text_front size bytes.now }
+    ensures front { IfSome result (λ front. front.now ≡ take size bytes.now) }
+    ensures size { IfSome result (λ front. length front.now ≡ size) }
+    ensures within { IfSome result (λ front. size ≤ length bytes.now) }
+{
+    if bytes.len() < size {
+        return None;
+    }
+    match str::from_utf8(&bytes[..size]) {
+        Ok(front) => Some(front),
+        Err(_) => None,
+    }
+}
+
+/// Whether bytes of UTF-8 begin with one of the control characters U+0080 to U+009F.
+fn is_control(bytes: &[u8]) -> bool
+    ensures { result ≡ is_control bytes.now }
+{
+    byte_at(bytes, 0) == 0xc2 && byte_at(bytes, 1) < 0xa0
+}
+
+/// Whether bytes of UTF-8 begin with a mark that changes the order of reading, or that begins another line.
+fn is_mark(bytes: &[u8]) -> bool
+    ensures { result ≡ is_mark bytes.now }
+{
+    let second = byte_at(bytes, 1);
+    let third = byte_at(bytes, 2);
+    byte_at(bytes, 0) == 0xe2
+        && ((second == 0x80
+            && (third == 0x8e || (third == 0x8f || (third >= 0xa8 && third <= 0xae))))
+            || (second == 0x81 && (third >= 0xa6 && third <= 0xa9)))
+}
+
+/// The byte at a place, or 0 past the end.
+fn byte_at(bytes: &[u8], at: usize) -> u8
+    ensures { result ≡ slice_index bytes.now at }
+{
+    match bytes.get(at) {
+        Some(byte) => *byte,
+        None => 0,
+    }
+}
+
+/// Puts a byte that is shown by itself.
+fn put_byte(text: &mut String, byte: u8) -> Result<(), AllocError>
+    ensures { IfOk result (λ _. string_bytes text.new ≡ string_bytes text.old ++ byte_text byte) }
+{
+    if byte == b'"' {
+        text.push_str("\\\"")
+    } else if byte == b'\\' {
+        text.push_str("\\\\")
+    } else if byte >= 32 && byte <= 126 {
+        put_ascii(text, byte)
+    } else {
+        text.push_str("\\x")?;
+        put_digit(text, byte / 16)?;
+        put_digit(text, byte % 16)
+    }
+}
+
+/// Puts a character of ASCII.
+#[tactic(auto, using(std::proofs::lemmas::Str::encode_ascii))]
+fn put_ascii(text: &mut String, byte: u8) -> Result<(), AllocError>
+    requires { byte < 128 }
+    ensures { IfOk result (λ _. string_bytes text.new ≡ string_bytes text.old ++ (byte ∷ [])) }
+{
+    text.push(char::from(byte))
+}
+
+/// Puts a digit of base 16.
+fn put_digit(text: &mut String, digit: u8) -> Result<(), AllocError>
+    requires { digit < 16 }
+    ensures { IfOk result (λ _. string_bytes text.new ≡ string_bytes text.old ++ (digit_char digit ∷ [])) }
+{
+    if digit < 10 {
+        put_ascii(text, b'0' + digit)
+    } else {
+        put_ascii(text, b'a' - 10 + digit)
+    }
+}
