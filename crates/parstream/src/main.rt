@@ -1,10 +1,11 @@
 //! `parstream [--group COLUMNS] --agg ITEMS ..` answers a query over the comma-separated bytes of the standard input,
 //! whatever their length; `--help`, `-h` and `--version` are answered on the standard output. A word that is not
 //! understood, and an input that is compressed or no text, are named by a line on the standard error. `parstream combine`
-//! and `parstream finalize` put files of partial states together.
+//! and `parstream finalize` put files of partial states together, which `parstream partial` makes.
 //!
 //! This file is only the edge to the system: it hands the words and the standard streams to the libraries `input_hints`,
-//! `par_stream` and `state_forms`, whose contracts say what the answer is, and ends with the status that it gets.
+//! `shown_stream`, `state_partial` and `state_forms`, whose contracts say what the answer is, and ends with the status
+//! that it gets.
 
 #![tactic(auto)]
 
@@ -12,14 +13,16 @@ mod progress;
 
 use input_hints::{Peeked, asked_of, refuse_input, refuse_words, tell};
 use par_io::{StdSink, StdSource};
-use par_stream::{NO_MEMORY, WINDOW_BYTES, say_usage, stream_table};
+use par_stream::{NO_MEMORY, WINDOW_BYTES, say_usage};
 use progress::ProgressLine;
+use shown_stream::{refuse_options, shown_table, take_options};
 use state_forms::{form_of, run_form};
 use state_partial::{part_words, partial_states};
 use std::env::Env;
 use std::io::ErrorKind;
 use std::process::ExitCode;
 use std::{env, io};
+use tile_source::TileSource;
 
 /// The words after the program's name; none of them if one is not UTF-8.
 fn words(rt: &HostRuntime) -> io::Result<Option<Vec<String>>> {
@@ -63,10 +66,11 @@ fn main(rt: HostRuntime) -> ExitCode {
         return ExitCode::from(status);
     }
     if let Some(asked) = part_words(words.as_slice()) {
-        let mut source = Peeked::new(StdSource::new(rt.stdin()));
-        if let Some(status) = refuse_input(&mut source, &mut err) {
+        let mut peeked = Peeked::new(StdSource::new(rt.stdin()));
+        if let Some(status) = refuse_input(&mut peeked, &mut err) {
             return ExitCode::from(status);
         }
+        let mut source = TileSource::new(peeked);
         let status = partial_states(
             &rt,
             rt.alloc(),
@@ -79,17 +83,24 @@ fn main(rt: HostRuntime) -> ExitCode {
         );
         return ExitCode::from(status);
     }
-    if let Some(status) = refuse_words(rt.alloc(), words.as_slice(), &mut err) {
+    let Ok(taken) = take_options(rt.alloc(), words.as_slice()) else {
+        let _ = eprintln!(rt; "parstream: out of memory");
+        return ExitCode::from(NO_MEMORY);
+    };
+    if let Some(status) = refuse_words(rt.alloc(), taken.rest.as_slice(), &mut err) {
+        return ExitCode::from(status);
+    }
+    if let Some(status) = refuse_options(rt.alloc(), &taken, &mut err) {
         return ExitCode::from(status);
     }
     let mut source = Peeked::new(StdSource::new(rt.stdin()));
     if let Some(status) = refuse_input(&mut source, &mut err) {
         return ExitCode::from(status);
     }
-    let status = stream_table(
+    let status = shown_table(
         &rt,
         rt.alloc(),
-        words.as_slice(),
+        &taken,
         &mut source,
         &mut out,
         &mut err,

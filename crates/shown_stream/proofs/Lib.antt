@@ -1,0 +1,3 @@
+pub mod Hows
+pub mod Tables
+pub mod Ends

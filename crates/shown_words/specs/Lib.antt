@@ -1,0 +1,5 @@
+pub mod Taking
+pub mod Words
+pub mod Asking
+pub mod Columns
+pub mod Telling
