@@ -37,7 +37,7 @@ STREAMS = [
         "--agg count --plan hash",
         b"g\n1\n",
         b"",
-        b'parstream: "--plan" is not understood: the options are --group, --agg, --where, --decimals and --workers; see'
+        b'parstream: "--plan" is not understood: the options are --group, --agg, --where, --decimals, --workers, --order and --limit; see'
         b" parstream --help\n",
         2,
     ),
@@ -165,7 +165,7 @@ STREAMS = [
 
 
 def read(path):
-    """The bytes of a file of the repository, or None where there is none."""
+    """The bytes of a file of the repository, or None if there is none."""
     path = os.path.join(REPOSITORY, path)
     if not os.path.exists(path):
         return None

@@ -12,18 +12,20 @@ use par_io::{Sink, write_whole};
 /// What `--help` and `-h` are answered.
 pub const HELP: &str = "\
 usage: parstream [--group COLUMNS] --agg ITEMS [--where FILTER]..
-                 [--decimals PLACES] [--workers N]
+                 [--decimals PLACES] [--workers N] [--order COLUMN] [--limit N]
+                 [--output FORM]
        parstream partial [--source I/N] [--group COLUMNS] --agg ITEMS ..
+       parstream partial --bytes FROM[-TO] --size S [--source I/N] ..
        parstream combine
        parstream finalize [--above RECORD] [--below RECORD]
 
 Reads comma-separated records from the standard input, of which the first is the
 header, and writes a table with a row for each group.
 
-With partial the records are those of one of several sources, and what they come
-to is written as a file of partial states. combine reads such files, one after
-another, and writes them as one; finalize writes the table of the rows of all
-sources, if it reads the states of all of them.
+With partial the records are those of one of several sources, or of a tile of a
+large one, and what they come to is written as a file of partial states. combine
+reads such files, one after another, and writes them as one; finalize writes the
+table of the rows of all sources, if it reads the states of all of them.
 
   --group COLUMNS  one to eight names between commas; without it all rows are
                    one group
@@ -39,9 +41,18 @@ sources, if it reads the states of all of them.
                    2 for all columns, price=2,weight=3 for some; without it
                    numbers are integers
   --workers N      0 to 64 threads besides the first; 2 if it is not given
+  --order COLUMN   the rows by an item or a column of --group, as in sum:qty or
+                   sum:qty:desc; year:numeric orders keys that are integers
+  --limit N        at most the first N rows of the table
+  --output FORM    csv, tsv, json (an object a line) or aligned (for a reader)
   --source I/N     with partial: the number of the source, from 0 on, and how
                    many there are; 0/1 if it is not given
-  --above RECORD   with finalize: only the groups from this key on, and no header
+  --bytes FROM[-TO]
+                   with partial: the tile of the source between the first end of
+                   a line from byte FROM on and that from TO on, or the end; the
+                   input is the header's line and the source from FROM on
+  --size S         with --bytes: how many bytes the source has
+  --above RECORD   with finalize: only groups from this key on, and no header
   --below RECORD   with finalize: only the groups before this key
   -h, --help       this text
   --version        the program's version
@@ -58,6 +69,7 @@ Examples:
   parstream --group region --agg max:qty --where 'qty>=10' < orders.csv
   parstream --agg count --where region=north --where 'qty!=' < orders.csv
   parstream --agg sum:price --decimals 2 --where 'price>=9.50' < orders.csv
+  parstream --group region --agg sum:qty --order sum:qty:desc --limit 10 < o.csv
   zcat orders.csv.gz | parstream --group region --agg count --workers 4
   parstream partial --source 0/2 --agg count < 2025.csv > 2025.states
   parstream partial --source 1/2 --agg count < 2026.csv > 2026.states

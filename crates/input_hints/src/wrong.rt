@@ -385,7 +385,8 @@ impl Expected {
         ensures { result.now ≡ expected_text self }
     {
         match self {
-            Expected::Name => "the options are --group, --agg, --where, --decimals and --workers",
+            Expected::Name =>
+                "the options are --group, --agg, --where, --decimals, --workers, --order and --limit",
             Expected::Other => "this option may be given once",
             Expected::Value(name) => name.values(),
             Expected::Items => "--agg ITEMS is missing",
