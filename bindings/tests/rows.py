@@ -37,7 +37,7 @@ STREAMS = [
         "--agg count --plan hash",
         b"g\n1\n",
         b"",
-        b'parstream: "--plan" is not understood: the options are --group, --agg, --where, --decimals, --workers, --order and --limit; see'
+        b'parstream: "--plan" is not understood: the options are --group, --agg, --where, --decimals, --workers, --order, --limit and --output; see'
         b" parstream --help\n",
         2,
     ),

@@ -124,7 +124,7 @@ values_text opt.Decimals = codes "--decimals takes a number from 0 to 18, or one
 
 -- what may come
 abbrev pub expected_text : Expected → List ℕ
-expected_text may.Name = codes "the options are --group, --agg, --where, --decimals, --workers, --order and --limit"
+expected_text may.Name = codes "the options are --group, --agg, --where, --decimals, --workers, --order, --limit and --output"
 expected_text may.Other = codes "this option may be given once"
 expected_text (may.Value name) = values_text name
 expected_text may.Items = codes "--agg ITEMS is missing"

@@ -386,7 +386,7 @@ impl Expected {
     {
         match self {
             Expected::Name =>
-                "the options are --group, --agg, --where, --decimals, --workers, --order and --limit",
+                "the options are --group, --agg, --where, --decimals, --workers, --order, --limit and --output",
             Expected::Other => "this option may be given once",
             Expected::Value(name) => name.values(),
             Expected::Items => "--agg ITEMS is missing",

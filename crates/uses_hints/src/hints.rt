@@ -233,7 +233,7 @@ const REFUSED: [(&str, &str); 8] = [
     ("--agg count", ""),
     (
         "--agg count orders.csv",
-        "parstream: \"orders.csv\" is not understood: the options are --group, --agg, --where, --decimals, --workers, --order and --limit; see parstream --help\n",
+        "parstream: \"orders.csv\" is not understood: the options are --group, --agg, --where, --decimals, --workers, --order, --limit and --output; see parstream --help\n",
     ),
     (
         "--agg sum(v)",
