@@ -1,7 +1,9 @@
 pub mod AllRecords
 pub mod Bits
+pub mod Cleaned
 pub mod Compose
 pub mod Ends
+pub mod Exchanges
 pub mod Follows
 pub mod Gaps
 pub mod Groups

@@ -5,7 +5,7 @@
 
 ghost use Rattle.std.specs.Prelude.{◌≡◌, IfOk, None, OnOk, codes, map, option_map, option_to_list, false, true, string_bytes};
 ghost use Rattle.clap.specs.Words.{app_of, found_of, is_simple_and_free, matches_of, rows_of, with_rule};
-ghost use Rattle.plan_spec.specs.Options.{is_command_line, option_of, pargather_command, parstream_command, repeated_of, value_of, values_of};
+ghost use Rattle.plan_spec.specs.Options.{flag_in, is_command_line, option_of, pargather_command, parstream_command, repeated_of, value_of, values_of};
 ghost use Rattle.plan_spec.specs.declared.plan.PlanAnswer.TheVariants as answer;
 
 use crate::PlanAnswer;
@@ -23,6 +23,10 @@ pub(crate) struct OptionValues<'a> {
     /// Whether a filter may compare texts.
     pub(crate) texts: bool,
     pub(crate) decimals: Option<&'a str>,
+    pub(crate) separator: Option<&'a str>,
+    pub(crate) nulls: Option<&'a str>,
+    /// Whether `--trim` is given.
+    pub(crate) trim: bool,
     pub(crate) workers: Option<&'a str>,
     pub(crate) plan: Option<&'a str>,
     pub(crate) area_pages: Option<&'a str>,
@@ -39,6 +43,7 @@ pub(crate) fn option_values<'a>(
     ensures filters { IfOk result (λ g. map (λ s. s.now) g.filters.items ≡ option_to_list (value_of pargather_command (codes "where") (map string_bytes words.entry.now))) }
     ensures texts { IfOk result (λ g. g.texts ≡ false) }
     ensures decimals { IfOk result (λ g. g.decimals ≡ None) }
+    ensures reading { IfOk result (λ g. (g.separator ≡ None) × (g.nulls ≡ None) × (g.trim ≡ false)) }
     ensures workers { IfOk result (λ g. option_map (λ s. s.now) g.workers ≡ value_of pargather_command (codes "workers") (map string_bytes words.entry.now)) }
     ensures plan { IfOk result (λ g. option_map (λ s. s.now) g.plan ≡ value_of pargather_command (codes "plan") (map string_bytes words.entry.now)) }
     ensures area_pages { IfOk result (λ g. option_map (λ s. s.now) g.area_pages ≡ value_of pargather_command (codes "area-pages") (map string_bytes words.entry.now)) }
@@ -57,6 +62,9 @@ pub(crate) fn option_values<'a>(
         filters,
         texts: false,
         decimals: None,
+        separator: None,
+        nulls: None,
+        trim: false,
         workers: matches.get_str("workers"),
         plan: matches.get_str("plan"),
         area_pages: matches.get_str("area-pages"),
@@ -75,6 +83,9 @@ pub(crate) fn stream_values<'a>(
     ensures texts { IfOk result (λ g. g.texts ≡ true) }
     ensures decimals { IfOk result (λ g. option_map (λ s. s.now) g.decimals ≡ value_of parstream_command (codes "decimals") (map string_bytes words.entry.now)) }
     ensures workers { IfOk result (λ g. option_map (λ s. s.now) g.workers ≡ value_of parstream_command (codes "workers") (map string_bytes words.entry.now)) }
+    ensures separator { IfOk result (λ g. option_map (λ s. s.now) g.separator ≡ value_of parstream_command (codes "separator") (map string_bytes words.entry.now)) }
+    ensures nulls { IfOk result (λ g. option_map (λ s. s.now) g.nulls ≡ value_of parstream_command (codes "null") (map string_bytes words.entry.now)) }
+    ensures trim { IfOk result (λ g. g.trim ≡ flag_in parstream_command (codes "trim") (map string_bytes words.entry.now)) }
     ensures plan { IfOk result (λ g. (g.plan ≡ None) × (g.area_pages ≡ None)) }
     ensures refuses { result ≡ Err answer.Usage → is_command_line parstream_command (map string_bytes words.entry.now) ≡ false }
 {
@@ -91,6 +102,9 @@ pub(crate) fn stream_values<'a>(
         filters,
         texts: true,
         decimals: matches.get_str("decimals"),
+        separator: matches.get_str("separator"),
+        nulls: matches.get_str("null"),
+        trim: matches.get_flag("trim"),
         workers: matches.get_str("workers"),
         plan: None,
         area_pages: None,
@@ -142,7 +156,7 @@ fn pargather<'a>(alloc: Global) -> Result<Command<'a>, AllocError>
     with_option(alloc, planned, "area-pages", false)
 }
 
-/// The command of parstream with its five options, of which `--where` may be repeated.
+/// The command of parstream with its eight options, of which `--where` may be repeated and `--trim` has no value.
 fn parstream<'a>(alloc: Global) -> Result<Command<'a>, AllocError>
     ensures { IfOk result (λ c. app_of c ≡ parstream_command) }
 {
@@ -155,7 +169,14 @@ fn parstream<'a>(alloc: Global) -> Result<Command<'a>, AllocError>
             .action(ArgAction::Append),
     )?;
     let staffed = with_option(alloc, filtered, "workers", false)?;
-    with_option(alloc, staffed, "decimals", false)
+    let pointed = with_option(alloc, staffed, "decimals", false)?;
+    let parted = with_option(alloc, pointed, "separator", false)?;
+    let emptied = with_option(alloc, parted, "null", false)?;
+    emptied.arg(
+        Arg::new(alloc, "trim")
+            .long("trim")
+            .action(ArgAction::SetTrue),
+    )
 }
 
 /// A command with one more option, which takes one value.

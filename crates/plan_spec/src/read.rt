@@ -2,15 +2,20 @@
 
 ghost use Rattle.std.specs.Prelude.{◌≡◌, ◌≤◌, None, Some, All, IfOk, map, string_bytes, true, vec_len};
 ghost use Rattle.par_model.specs.Plain.{is_plain_named};
-ghost use Rattle.plan_spec.specs.Query.{groups_given, hash_given, items_given, number_given, places_given, query_of, stream_query_of, text_of};
+ghost use Rattle.csv_rows.specs.Readings.{IsSeparator};
+ghost use Rattle.plan_spec.specs.Query.{groups_given, hash_given, items_given, nulls_given, number_given, places_given, query_of, reading_given, separator_given, stream_query_of, text_of};
 ghost use Rattle.plan_spec.specs.Given.{entry_of, query_given};
 ghost use Rattle.plan_spec.specs.Grammar.{filters_in};
 ghost use Rattle.par_model.specs.declared.plan.TheConstants.{MOST_PLACES};
 ghost use Rattle.plan_spec.specs.declared.plan.PlanAnswer.TheVariants as answer;
 
-use crate::grammar::{MOST_NUMBER, PlacesOf, filters, hash, items, names, number, places};
+use crate::grammar::{
+    MOST_NUMBER, PlacesOf, filters, hash, items, names, nulls, number, places, separator,
+};
 use crate::options::{OptionValues, option_values, stream_values};
 use crate::plan::{MOST_AREA_PAGES, MOST_WORKERS, Plan, PlanAnswer, PlanItem};
+use csv_rows::Reading;
+use par_model::Text;
 use std::alloc::Global;
 
 /// The number of workers if the words ask for none.
@@ -59,6 +64,7 @@ fn read_values(alloc: Global, given: &OptionValues<'_>) -> Result<Plan, PlanAnsw
     let filters = filters(alloc, &places, given.filters.as_slice(), given.texts)?;
     let groups = groups_read(alloc, given.group)?;
     let items = items_read(alloc, &places, given.agg)?;
+    let reading = reading_read(given)?;
     Ok(Plan {
         groups,
         items,
@@ -66,7 +72,45 @@ fn read_values(alloc: Global, given: &OptionValues<'_>) -> Result<Plan, PlanAnsw
         hash,
         workers,
         area_pages,
+        reading,
     })
+}
+
+/// How the fields of the input are read.
+fn reading_read(given: &OptionValues<'_>) -> Result<Reading, PlanAnswer>
+    ensures reading { IfOk result (λ r. reading_given (text_of given.now.separator) given.now.trim (text_of given.now.nulls) ≡ Some r) }
+    ensures separator { IfOk result (λ r. IsSeparator r.separator) }
+    ensures none { result ≡ Err answer.Usage → reading_given (text_of given.now.separator) given.now.trim (text_of given.now.nulls) ≡ None }
+{
+    let separator = separator_read(given.separator)?;
+    let nulls = nulls_read(given.nulls)?;
+    let trim = given.trim;
+    Ok(Reading {
+        separator,
+        trim,
+        nulls,
+    })
+}
+
+fn separator_read(given: Option<&str>) -> Result<u8, PlanAnswer>
+    ensures byte { IfOk result (λ byte. separator_given (text_of given.entry) ≡ Some byte) }
+    ensures fits { IfOk result IsSeparator }
+    ensures none { result ≡ Err answer.Usage → separator_given (text_of given.entry) ≡ None }
+{
+    match given {
+        Some(text) => separator(text).ok_or(PlanAnswer::Usage),
+        None => Ok(b','),
+    }
+}
+
+fn nulls_read(given: Option<&str>) -> Result<Text, PlanAnswer>
+    ensures texts { IfOk result (λ text. nulls_given (text_of given.entry) ≡ Some text) }
+    ensures none { result ≡ Err answer.Usage → nulls_given (text_of given.entry) ≡ None }
+{
+    match given {
+        Some(text) => nulls(text).ok_or(PlanAnswer::Usage),
+        None => Ok(Reading::plain().nulls),
+    }
 }
 
 fn places_read<'a>(alloc: Global, given: Option<&'a str>) -> Result<Vec<PlacesOf<'a>>, PlanAnswer>

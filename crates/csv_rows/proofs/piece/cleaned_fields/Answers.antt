@@ -1,0 +1,19 @@
+use Rattle.std.proofs.Common.{◌≡◌, ◌<◌, [], length, map, take, refl, arith, rules}
+use Rattle.std.proofs.lemmas.List.{map_more}
+use Rattle.csv_rows.specs.Readings.{cleaned}
+use Rattle.csv_rows.specs.Store.{cut_apart}
+use Rattle.csv_rows.proofs.Gaps.{apart-length}
+use Rattle.csv_rows.proofs.piece.cleaned_fields.Goals as goal
+
+pub fields-preserved : goal.fields-preserved
+fields-preserved c =
+    let inv = c.fields.invariant in
+    let xs = cut_apart c.args.gap 0 c.args.ends.now.items c.args.bytes.now.items in
+    let e = c.in_ok-push_field.ensures in
+    let at = rw c.as_slice.ensures.value at c.field_at-field.ensures in
+    let lt : c.fields.i < length c.args.ends.now.items = search rules in
+    let short : c.fields.i < length xs = rw (apart-length c.args.gap 0 c.args.ends.now.items c.args.bytes.now.items) lt in
+    record {
+      covers = e.covers;
+      fields = rw (e.fields, inv.fields, c.cleaned.ensures, at, map_more (cleaned c.args.reading.now) xs c.fields.i [] short) refl;
+    }
