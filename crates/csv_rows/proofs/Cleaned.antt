@@ -51,7 +51,7 @@ cleaned-exchanged reading records =
 
 -- a field that is read as it is
 kept-field : (nulls field : List ℕ) → (length nulls == 0) ≡ true → (if is_among field nulls then [] else field) ≡ field
-kept-field [] [] none = elim (cases_Bool (is_among [] [])) [ inl e ↦ rw e refl | inr e ↦ rw e refl ]
+kept-field [] [] none = refl
 kept-field [] (x ∷ field) none = refl
 kept-field (n ∷ nulls) field none = cc none
 

@@ -157,7 +157,7 @@ strip-exchanged sep (a ∷ b ∷ c ∷ rest) low =
     ]
 
 -- a field that is read as it was before the exchange
-as-read-all : (reading : Reading) (record : List (List ℕ)) → map (as_read reading) (map (map (exchanged reading.separator)) record) ≡ map (cleaned reading) record
+as-read-all : (reading : Reading) (fields : List (List ℕ)) → map (as_read reading) (map (map (exchanged reading.separator)) fields) ≡ map (cleaned reading) fields
 as-read-all reading [] = refl
 as-read-all reading (field ∷ rest) = rw (twice-all reading.separator field, as-read-all reading rest) refl
 

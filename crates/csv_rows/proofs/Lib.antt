@@ -1,4 +1,5 @@
 pub mod AllRecords
+pub mod Among
 pub mod Bits
 pub mod Cleaned
 pub mod Compose

@@ -1,9 +1,15 @@
-use Rattle.std.proofs.Common.{◌≡◌, ◌<◌, [], length, map, take, refl, arith, rules}
-use Rattle.std.proofs.lemmas.List.{map_more}
+use Rattle.std.proofs.Common.{◌≡◌, ◌<◌, ◌≤◌, ◌∙◌, [], length, map, take, ap, refl, arith, rules}
+use Rattle.std.proofs.lemmas.List.{map_more, take_all}
 use Rattle.csv_rows.specs.Readings.{cleaned}
 use Rattle.csv_rows.specs.Store.{cut_apart}
+use Rattle.csv_rows.proofs.Cleaned.{cut-none}
 use Rattle.csv_rows.proofs.Gaps.{apart-length}
+use Rattle.csv_rows.proofs.Groups.{covers-none}
 use Rattle.csv_rows.proofs.piece.cleaned_fields.Goals as goal
+
+pub fields-init : goal.fields-init
+fields-init c =
+    rw (c.reserve_exact-2.ensures.items, c.new-places.ensures.items, c.reserve_exact.ensures.items, c.new-texts.ensures.items) (record { covers = covers-none; fields = cut-none })
 
 pub fields-preserved : goal.fields-preserved
 fields-preserved c =
@@ -17,3 +23,10 @@ fields-preserved c =
       covers = e.covers;
       fields = rw (e.fields, inv.fields, c.cleaned.ensures, at, map_more (cleaned c.args.reading.now) xs c.fields.i [] short) refl;
     }
+
+pub returns-clause-fields : goal.returns-clause-fields
+returns-clause-fields c =
+    let xs = cut_apart c.args.gap 0 c.args.ends.now.items c.args.bytes.now.items in
+    let end : length c.args.ends.now.items ≤ c.fields.i = search rules in
+    let whole : length xs ≤ c.fields.i = rw (apart-length c.args.gap 0 c.args.ends.now.items c.args.bytes.now.items) end in
+    c.fields.invariant.fields ∙ ap (map (cleaned c.args.reading.now)) (take_all c.fields.i xs whole)

@@ -8,7 +8,7 @@ pub returns-else-is_err-clause-records : goal.returns-else-is_err-clause-records
 returns-else-is_err-clause-records c =
     let good : is_ok c.push.result ≡ true = search rules in
     let items = rw (good, c.new-pieces.ensures.items) at c.push.ensures.items in
-    ap joined items ∙ (joined-one c.in-Ok.piece ∙ c.in-Ok.ensures)
+    ap joined items ∙ (joined-one c.in-Ok.piece ∙ c.in-Ok.ensures.records)
 
 pub returns-in-Err-NoHeader-clause-records : goal.returns-in-Err-NoHeader-clause-records
 returns-in-Err-NoHeader-clause-records c =

@@ -12,7 +12,7 @@ returns-in-Err-clause-too_many c = λ h.
     let many : 4194305 < length (records_of c.args.bytes.now) = c.read_records.ensures.too_many (c.in-Err.is ∙ h) in
     rw (as-length c.args.reading.now c.args.bytes.now) many
 
-pub returns-in-Ok-clause-records : goal.returns-in-Ok-clause-records
-returns-in-Ok-clause-records c =
+pub returns-in-Ok-cleaned-clause-records : goal.returns-in-Ok-cleaned-clause-records
+returns-in-Ok-cleaned-clause-records c =
     let swapped = c.exchanged-swapped.ensures ∙ ap (λ (rs : List (List (List ℕ))). map (map (map (exchanged c.args.reading.now.separator))) rs) c.in-Ok.ensures.records in
     c.in-Ok-cleaned.ensures ∙ (ap (λ (rs : List (List (List ℕ))). map (map (cleaned c.args.reading.now)) rs) swapped ∙ cleaned-exchanged c.args.reading.now (records_of c.args.bytes.now))

@@ -9,8 +9,8 @@ returns-then-keeps_all c =
     let keeps : keeps_all c.args.reading.now ≡ true = sym c.keeps_all.ensures ∙ c.if-keeps_all.true in
     sym (kept-all c.args.reading.now c.args.self keeps)
 
-pub cleaned_fields-texts-requires : goal.cleaned_fields-texts-requires
-cleaned_fields-texts-requires c = c.self.invariant.fields
+pub cleaned_fields-requires : goal.cleaned_fields-requires
+cleaned_fields-requires c = c.self.invariant.fields
 
 pub of_lists-requires-clause-fields : goal.of_lists-requires-clause-fields
 of_lists-requires-clause-fields c = apart-rising 0 _ _ c.in_ok-texts.ensures.covers.0
