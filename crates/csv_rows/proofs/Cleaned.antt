@@ -1,7 +1,7 @@
 -- Records of which each field is read in another way.
 use Rattle.std.proofs.Common.{◌≡◌, ◌≤◌, ◌<◌, ◌+◌, ◌-◌, ◌∙◌, ℕ, zero, suc, true, false, List, [], ◌∷◌, ◌++◌, take, drop, length, map, get_or, refl, sym, ap, inl, inr, arith}
 use Rattle.std.specs.Prelude.{Bool, ◌==◌, ◌&&◌, bytes_eq, if◌then◌else◌, not}
-use Rattle.std.proofs.lemmas.Bool.{cases_Bool}
+use Rattle.std.proofs.lemmas.Bool.{cases_Bool, eqb-true, false≢true}
 use Rattle.std.proofs.lemmas.List.{drop-map, length-map, take-map}
 use Rattle.csv.specs.Records.{Rising, cut_from}
 use Rattle.csv.proofs.RecordFacts.{cut-length}
@@ -32,7 +32,7 @@ store-map f gap bytes ends row_ends is = record { fields = rw (length-map bytes 
 
 -- with the comma for itself nothing is exchanged
 exchanged-none : (c : ℕ) → exchanged 44 c ≡ c
-exchanged-none c = elim (cases_Bool (c == 44)) [ inl e ↦ rw e (sym (Rattle.std.proofs.lemmas.Bool.eqb-true c 44 e)) | inr e ↦ rw e refl ]
+exchanged-none c = elim (cases_Bool (c == 44)) [ inl e ↦ rw e (sym (eqb-true c 44 e)) | inr e ↦ rw e refl ]
 
 map-same : {A : Type 0} (f : A → A) (xs : List A) → ((x : A) → f x ≡ x) → map f xs ≡ xs
 map-same f [] h = refl
@@ -53,11 +53,11 @@ cleaned-exchanged reading records =
 kept-field : (nulls field : List ℕ) → (length nulls == 0) ≡ true → (if is_among field nulls then [] else field) ≡ field
 kept-field [] [] none = refl
 kept-field [] (x ∷ field) none = refl
-kept-field (n ∷ nulls) field none = cc none
+kept-field (n ∷ nulls) field none = absurd (omega (arith, eqb-true (length (n ∷ nulls)) 0 none))
 
 kept-if : (trim : Bool) (nulls field : List ℕ) → (not trim && (length nulls == 0)) ≡ true → (if is_among (trimmed_if trim field) nulls then [] else trimmed_if trim field) ≡ field
 kept-if false nulls field h = kept-field nulls field h
-kept-if true nulls field h = cc h
+kept-if true nulls field h = absurd (false≢true h)
 
 pub kept-all : (reading : Reading) (records : List (List (List ℕ))) → keeps_all reading ≡ true → map (map (cleaned reading)) records ≡ records
 kept-all reading records h = map-same (map (cleaned reading)) records (λ one. map-same (cleaned reading) one (λ field. kept-if reading.trim reading.nulls field h))
