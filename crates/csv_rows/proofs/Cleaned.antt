@@ -1,16 +1,16 @@
 -- Records of which each field is read in another way.
-use Rattle.std.proofs.Common.{◌≡◌, ◌≤◌, ◌<◌, ◌+◌, ◌-◌, ◌∙◌, ℕ, zero, suc, true, false, List, [], ◌∷◌, ◌++◌, take, drop, length, map, get_or, refl, sym, ap, inl, inr, arith}
-use Rattle.std.specs.Prelude.{Bool, ◌==◌, ◌&&◌, bytes_eq, if◌then◌else◌, not}
+use Rattle.std.proofs.Common.{◌≡◌, ◌+◌, ◌-◌, ◌∙◌, ℕ, true, false, List, [], ◌∷◌, drop, length, map, refl, sym, ap, inl, inr, arith}
+use Rattle.std.specs.Prelude.{Bool, ◌==◌, ◌&&◌, if◌then◌else◌, not}
 use Rattle.std.proofs.lemmas.Bool.{cases_Bool, eqb-true, false≢true}
 use Rattle.std.proofs.lemmas.List.{drop-map, length-map, take-map}
-use Rattle.csv.specs.Records.{Rising, cut_from}
+use Rattle.csv.specs.Records.{cut_from}
 use Rattle.csv.proofs.RecordFacts.{cut-length}
 use Rattle.csv_rows.specs.Readings.{as_read, cleaned, exchanged, is_among, keeps_all, plain, records_as, trimmed_if}
 use Rattle.csv_rows.specs.Records.{records_of}
-use Rattle.csv_rows.specs.Store.{Apart, Covers, IsStore, cut_apart, group_from, stored, stored_apart}
+use Rattle.csv_rows.specs.Store.{IsStore, cut_apart, group_from, stored_apart}
 use Rattle.csv_rows.specs.declared.cleaning.Reading.{Reading}
-use Rattle.csv_rows.proofs.Gaps.{apart-length, apart-rising}
-use Rattle.csv_rows.proofs.Groups.{group-length, stored-none}
+use Rattle.csv_rows.proofs.Gaps.{apart-length}
+use Rattle.csv_rows.proofs.Groups.{stored-none}
 
 -- the fields of bytes that are changed one by one
 cut-map : (f : ℕ → ℕ) (gap start : ℕ) (ends bytes : List ℕ) → cut_apart gap start ends (map f bytes) ≡ map (map f) (cut_apart gap start ends bytes)

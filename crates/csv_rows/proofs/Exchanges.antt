@@ -1,15 +1,17 @@
 -- A text whose fields are parted by another byte than the comma has the records of the text in which the two are exchanged.
-use Rattle.std.proofs.Common.{◌≡◌, ◌≢◌, ◌<◌, ◌+◌, ◌∙◌, ℕ, zero, suc, Bool, true, false, List, [], ◌∷◌, ◌++◌, Option, Some, None, length, map, refl, sym, ap, inl, inr, arith}
-use Rattle.std.specs.Prelude.{◌==◌, ◌&&◌, if◌then◌else◌, option_map}
+use Rattle.std.proofs.Common.{◌≡◌, ◌≢◌, ◌⊎◌, ◌<◌, ◌+◌, ◌∙◌, ℕ, zero, suc, true, false, List, [], ◌∷◌, Option, Some, None, length, map, refl, sym, ap, inl, inr, arith}
+use Rattle.std.specs.Prelude.{◌==◌, ◌&&◌, option_map}
+use Rattle.std.specs.Int.Bits.{bit_xor, xor_assoc, xor_self}
 use Rattle.std.proofs.lemmas.Bool.{cases_Bool, eq-eqb, eqb-true}
 use Rattle.std.proofs.lemmas.List.{length-map, map-append}
+use Rattle.std.proofs.lemmas.Nat.{xor_comm}
 use Rattle.csv.specs.Machine.{Read, ends_at_end, field_after, fields_after, is_end, next_record, step}
 use Rattle.csv.specs.Reading.{default_config, records, records_from, records_next, strip_bom}
 use Rattle.csv.specs.declared.parser.Action.{Action}
 use Rattle.csv.specs.declared.parser.Action.TheVariants as act
 use Rattle.csv.specs.declared.parser.State.{State}
 use Rattle.csv.specs.declared.parser.State.TheVariants as st
-use Rattle.csv_rows.specs.Readings.{IsSeparator, ReadsExchanged, as_read, cleaned, config_of, exchanged, records_as, records_in}
+use Rattle.csv_rows.specs.Readings.{IsSeparator, ReadsExchanged, as_read, cleaned, config_of, exchanged}
 use Rattle.csv_rows.specs.Records.{records_of}
 use Rattle.csv_rows.specs.declared.cleaning.Reading.{Reading}
 
@@ -45,6 +47,17 @@ is-other sep c k comma other = elim (cases_Bool (c == 44)) [
     | inr f ↦ rw (e, f) refl
   ]
 ]
+
+-- one exclusive or takes the comma to the separator and back
+xor-comma : (sep : ℕ) → bit_xor 44 (bit_xor 44 sep) ≡ sep
+xor-comma sep = sym (xor_assoc 44 44 sep)
+
+xor-separator : (sep : ℕ) → bit_xor sep (bit_xor 44 sep) ≡ 44
+xor-separator sep = ap (bit_xor sep) (xor_comm 44 sep) ∙ (sym (xor_assoc sep sep 44) ∙ ap (λ n. bit_xor n 44) (xor_self sep))
+
+pub xor-exchanged : (sep c : ℕ) → (c ≡ 44) ⊎ ((c ≢ 44) × (c ≡ sep)) → bit_xor c (bit_xor 44 sep) ≡ exchanged sep c
+xor-exchanged sep c (inl is) = rw is (xor-comma sep)
+xor-exchanged sep c (inr h) = rw (not-same c 44 h.0, eq-eqb c sep h.1) (ap (λ n. bit_xor n (bit_xor 44 sep)) h.1 ∙ xor-separator sep)
 
 -- done twice it changes nothing
 pub twice : (sep c : ℕ) → exchanged sep (exchanged sep c) ≡ c

@@ -1,5 +1,5 @@
 -- How the fields of a text are read.
-use Rattle.std.specs.Prelude.{◌≡◌, ◌≢◌, ◌<◌, ◌==◌, ◌&&◌, ◌-◌, ℕ, Bool, true, false, not, List, [], bytes_eq, drop, if◌then◌else◌, length, map, take}
+use Rattle.std.specs.Prelude.{◌≡◌, ◌≢◌, ◌<◌, ◌==◌, ◌&&◌, ◌-◌, ℕ, Bool, false, not, List, [], bytes_eq, drop, if◌then◌else◌, length, map, take}
 use Rattle.std.specs.Char.{is_ascii_whitespace}
 use Rattle.std.specs.List.{list_any, prefix_len, slice_split, suffix_len}
 use Rattle.csv.specs.Reading.{default_config, records, strip_bom}

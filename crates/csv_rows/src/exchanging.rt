@@ -16,15 +16,13 @@ pub fn exchange(bytes: &mut [u8], separator: u8)
     }
 }
 
-/// A byte after the exchange.
+/// A byte after the exchange: one exclusive or takes each of the two to the other.
 #[inline(always)]
 fn exchanged(byte: u8, separator: u8) -> u8
     ensures { result ≡ exchanged separator byte }
 {
-    if byte == b',' {
-        separator
-    } else if byte == separator {
-        b','
+    if byte == b',' || byte == separator {
+        byte ^ (b',' ^ separator)
     } else {
         byte
     }

@@ -1,8 +1,5 @@
-use Rattle.std.proofs.Common.{◌≡◌, ◌+◌, ◌≤◌, ◌∙◌, List, ℕ, true, false, Some, None, length, drop, sym, ap, arith, rules}
-use Rattle.std.specs.Prelude.{◌||◌, bytes_eq}
+use Rattle.std.proofs.Common.{◌+◌, ◌∙◌, sym, arith}
 use Rattle.std.proofs.lemmas.List.{length-drop, take_rest}
-use Rattle.memchr.specs.Find.{IsFirstByte, is_byte}
-use Rattle.csv_rows.specs.Readings.{is_among}
 use Rattle.csv_rows.proofs.Among.{first-part, longer, only-part}
 use Rattle.csv_rows.proofs.cleaning.is_among.Goals as goal
 

@@ -1,4 +1,4 @@
-use Rattle.std.proofs.Common.{◌≡◌, ◌<◌, ◌≤◌, ◌∙◌, [], length, map, take, ap, refl, arith, rules}
+use Rattle.std.proofs.Common.{◌<◌, ◌≤◌, ◌∙◌, [], length, map, ap, refl, rules}
 use Rattle.std.proofs.lemmas.List.{map_more, take_all}
 use Rattle.csv_rows.specs.Readings.{cleaned}
 use Rattle.csv_rows.specs.Store.{cut_apart}

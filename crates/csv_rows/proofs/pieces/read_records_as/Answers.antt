@@ -1,4 +1,4 @@
-use Rattle.std.proofs.Common.{◌≡◌, ◌<◌, ◌∙◌, ℕ, List, length, map, ap, arith}
+use Rattle.std.proofs.Common.{◌<◌, ◌∙◌, ℕ, List, length, map, ap}
 use Rattle.csv_rows.specs.Readings.{as_read, cleaned, exchanged}
 use Rattle.csv_rows.specs.Records.{records_of}
 use Rattle.csv_rows.proofs.Cleaned.{as-length, cleaned-exchanged}
