@@ -33,13 +33,7 @@ type Row = (u8, bool, &'static [u8], &'static [u8], &'static [u8]);
 
 /// Separators with commas and quotes beside them; white space and such texts in quotes, in the header and inside fields.
 const READINGS: [Row; 7] = [
-    (
-        b';',
-        false,
-        b"",
-        b"a;b\n\"x;y\"; 1,5\n",
-        b"a|b|/x;y| 1,5|/",
-    ),
+    (b';', false, b"", b"a;b\n\"x;y\"; 1,5\n", b"a|b|/x;y| 1,5|/"),
     (
         b'\t',
         true,
