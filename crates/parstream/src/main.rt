@@ -12,7 +12,7 @@ mod progress;
 
 use input_hints::{Peeked, asked_of, refuse_input, refuse_words, tell};
 use par_io::{StdSink, StdSource};
-use par_stream::{NO_MEMORY, WINDOW_BYTES, say_usage, stream_table};
+use par_stream::{NO_MEMORY, Separated, WINDOW_BYTES, say_usage, stream_table};
 use progress::ProgressLine;
 use state_forms::{form_of, run_form};
 use state_partial::{part_words, partial_states};
@@ -86,6 +86,7 @@ fn main(rt: HostRuntime) -> ExitCode {
     if let Some(status) = refuse_input(&mut source, &mut err) {
         return ExitCode::from(status);
     }
+    let mut source = Separated::new(source);
     let status = stream_table(
         &rt,
         rt.alloc(),
