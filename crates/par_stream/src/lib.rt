@@ -35,7 +35,7 @@ use std::alloc::Global;
 use std::sync::Wait;
 use std::thread::Threads;
 pub use stream_groups::{LONG_RECORD, Progress, Separated, SoFar, Stop, Untold};
-use stream_groups::{Taken, read_groups, read_words};
+use stream_groups::{Taken, read_input, read_words};
 
 /// The bytes that a batch of the program's windows is to have: 4 MiB.
 pub const WINDOW_BYTES: usize = 4_194_304;
@@ -115,10 +115,9 @@ fn answer_stream<R: Threads + Wait + Sync, S: Source, O: Sink, P: Progress>(
     ensures unread { IsNone (stream_query_of (texts words.now)) → source.new ≡ source.old }
 {
     let plan = read_words(alloc, words)?;
-    source.separate(plan.reading().separator);
     let mut taken = Taken::Bytes(0);
     let workers = plan.workers();
-    let read = read_groups(
+    let read = read_input(
         rt,
         alloc,
         &plan,

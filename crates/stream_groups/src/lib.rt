@@ -19,6 +19,7 @@ mod adding;
 mod batch;
 mod filling;
 mod gathered;
+mod input;
 mod place;
 mod progress;
 mod reading;
@@ -31,8 +32,9 @@ mod twice;
 mod words;
 
 pub use gathered::{Gathered, all_groups, may_part};
+pub use input::read_input;
 pub use progress::{Progress, SoFar, Untold};
-pub use reading::{ReadGroups, read_groups};
+pub use reading::ReadGroups;
 pub use separated::Separated;
 pub use stop::{LONG_RECORD, RefusedRow, Stop};
 pub use taken::Taken;

@@ -55,9 +55,8 @@ pub(crate) struct Stream {
 const FIRST_BYTES: usize = 4096;
 
 /// Reads the whole source, in batches of this many bytes or more, with this many workers, and reports how far it has come. The bytes that
-/// the source gave are counted, also if there are no groups. In its bytes the comma and the plan's separator are exchanged
-/// ([`Separated`](crate::Separated)).
-pub fn read_groups<R: Threads + Wait + Sync, S: Source, P: Progress>(
+/// the source gave are counted, also if there are no groups. In its bytes the comma and the plan's separator are exchanged.
+pub(crate) fn read_groups<R: Threads + Wait + Sync, S: Source, P: Progress>(
     rt: &R,
     alloc: Global,
     plan: &Plan,
