@@ -34,7 +34,7 @@ mod words;
 pub use gathered::{Gathered, all_groups, may_part};
 pub use input::read_input;
 pub use progress::{Progress, SoFar, Untold};
-pub use reading::ReadGroups;
+pub use reading::{ReadGroups, read_groups};
 pub use separated::Separated;
 pub use stop::{LONG_RECORD, RefusedRow, Stop};
 pub use taken::Taken;

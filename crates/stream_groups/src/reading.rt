@@ -56,7 +56,7 @@ const FIRST_BYTES: usize = 4096;
 
 /// Reads the whole source, in batches of this many bytes or more, with this many workers, and reports how far it has come. The bytes that
 /// the source gave are counted, also if there are no groups. In its bytes the comma and the plan's separator are exchanged.
-pub(crate) fn read_groups<R: Threads + Wait + Sync, S: Source, P: Progress>(
+pub fn read_groups<R: Threads + Wait + Sync, S: Source, P: Progress>(
     rt: &R,
     alloc: Global,
     plan: &Plan,
