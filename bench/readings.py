@@ -2,6 +2,8 @@
 """Compares parstream --separator, --null and --trim with Python's csv module on random files.
 
 usage: readings.py PROGRAM SEED COUNT
+
+A program built with its batch size taken from the environment's WINDOW is run with 1 to 4096 bytes a batch; another ignores it.
 """
 import csv, io, random, subprocess, sys, os, threading
 csv.field_size_limit(1<<30)
@@ -96,7 +98,7 @@ def make(rnd,sep):
     if rnd.random()<.03: data+=b'"open'
     return names,data
 def run(args,data,pieces,rnd):
-    p=subprocess.Popen(args,stdin=subprocess.PIPE,stdout=subprocess.PIPE,stderr=subprocess.PIPE,bufsize=0)
+    p=subprocess.Popen(args,env=dict(os.environ,WINDOW=str(rnd.choice([1,16,64,300,1000,4096,4194304]))),stdin=subprocess.PIPE,stdout=subprocess.PIPE,stderr=subprocess.PIPE,bufsize=0)
     def feed():
         try:
             if pieces==0: p.stdin.write(data)
