@@ -10,6 +10,7 @@ use Rattle.csv_rows.specs.Readings.{records_as}
 use Rattle.csv_rows.specs.Records.{records_of}
 use Rattle.csv_rows.specs.declared.cleaning.Reading.{Reading}
 use Rattle.csv_rows.specs.declared.place.Place.TheVariants as scan
+use Rattle.csv_rows.proofs.Cleaned.{as-length}
 use Rattle.row_blocks.specs.Blocks.{Table}
 use Rattle.row_windows.specs.Seams.{BeginsLine, is_line_end}
 use Rattle.row_windows.specs.Stretch.{Stretch}
@@ -25,7 +26,7 @@ use Rattle.stream_groups.specs.Reading.{ArePart}
 use Rattle.stream_groups.specs.declared.place.Place.{Place}
 use Rattle.stream_groups.proofs.AllEnds.{ends_between}
 use Rattle.stream_groups.proofs.Feeds.{lines_apart}
-use Rattle.stream_groups.proofs.ReadAs.{count_as, rows_count}
+use Rattle.stream_groups.proofs.ReadAs.{rows_count}
 use Rattle.stream_groups.proofs.Windows.{begins_longer}
 
 -- ---- texts one after another, of which the second has no bytes or begins with the end of a line
@@ -156,7 +157,7 @@ module _ (reading : Reading) (bytes : List ℕ) (records : Table) (feeds : ℕ) 
   follows = follow reading part.front before part.whole (All-take (IsLined reading) k pieces lined) before_cut
 
   front_count : length (records_of front) ≡ length records + length (rows_of before)
-  front_count = omega (arith, follows.count, ap (λ (l : Table). length l) part.is, count_as reading part.front)
+  front_count = omega (arith, follows.count, ap (λ (l : Table). length l) part.is, as-length reading part.front)
 
   front_feeds : count_feeds front ≡ feeds + feeds_of before
   front_feeds = count_append part.front (lines_of before) ∙ ap (λ (n : ℕ). n + feeds_of before) part.feeds

@@ -1,19 +1,16 @@
 -- The records of a text whose fields are read in some way.
 use Rattle.std.proofs.Common.{◌≡◌, ◌++◌, ◌∙◌, ℕ, List, [], length, map, ap}
-use Rattle.std.proofs.lemmas.List.{length-map, map-append}
+use Rattle.std.proofs.lemmas.List.{map-append}
 use Rattle.csv_rows.specs.Readings.{as_read, records_as}
 use Rattle.csv_rows.specs.Records.{records_of}
 use Rattle.csv_rows.specs.declared.cleaning.Reading.{Reading}
+use Rattle.csv_rows.proofs.Cleaned.{as-length}
 use Rattle.row_windows.specs.Seams.{IsSeam}
 use Rattle.row_windows.specs.Stretch.{Stretch}
 use Rattle.row_windows.proofs.Seams.{records_add_up}
 use Rattle.split_run.specs.Pieces.{piece_rows}
 use Rattle.text_lines.proofs.Ends.{no_records}
 use Rattle.stream_groups.specs.Begins.{IsLined}
-
--- they are as many as the text has
-pub count_as : (reading : Reading) (text : List ℕ) → length (records_as reading text) ≡ length (records_of text)
-count_as reading text = length-map (records_of text) (map (as_read reading))
 
 -- a text of no bytes has none
 pub none_as : (reading : Reading) → records_as reading [] ≡ []
@@ -25,4 +22,4 @@ as_add_up reading front back seam = ap (map (map (as_read reading))) (records_ad
 
 -- a window has as many rows as its lines have records
 pub rows_count : (reading : Reading) (w : Stretch) → IsLined reading w → length (piece_rows w) ≡ length (records_of w.lines)
-rows_count reading w lined = ap length lined.rows ∙ count_as reading w.lines
+rows_count reading w lined = ap length lined.rows ∙ as-length reading w.lines

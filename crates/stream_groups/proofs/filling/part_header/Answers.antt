@@ -3,8 +3,8 @@ use Rattle.std.specs.Prelude.{unwrap_or}
 use Rattle.csv_rows.specs.Readings.{records_as}
 use Rattle.csv_rows.specs.Records.{records_of}
 use Rattle.csv_rows.specs.declared.cleaning.Reading.{Reading}
+use Rattle.csv_rows.proofs.Cleaned.{as-length}
 use Rattle.row_windows.specs.Seams.{IsCutAt}
-use Rattle.stream_groups.proofs.ReadAs.{count_as}
 use Rattle.stream_groups.proofs.Streams.{front_one, front_records, parted_cut, parted_lined, parted_lines}
 use Rattle.stream_groups.proofs.filling.part_header.Goals as goal
 
@@ -19,8 +19,8 @@ returns-in-Ok-clause-one c =
     let reading = c.reading.result.now in
     let cut = take (unwrap_or c.header_end.result (length lines)) lines in
     let here : 0 < length (records_as reading cut) = subst (λ (l : List ℕ). 0 < length (records_as reading l)) front c.in-Ok.ensures.some in
-    let more : 0 < length (records_of cut) = omega (arith, here, count_as reading cut) in
-    ap length (c.in-Ok.ensures.records ∙ ap (records_as reading) front) ∙ (count_as reading cut ∙ front_one lines c.header_end.result some none more)
+    let more : 0 < length (records_of cut) = omega (arith, here, as-length reading cut) in
+    ap length (c.in-Ok.ensures.records ∙ ap (records_as reading) front) ∙ (as-length reading cut ∙ front_one lines c.header_end.result some none more)
 
 pub returns-in-Ok-clause-first : goal.returns-in-Ok-clause-first
 returns-in-Ok-clause-first c =
@@ -59,7 +59,7 @@ returns-in-Ok-clause-lined c =
     let table = c.reading.result.now in
     let first = take (unwrap_or c.header_end.result (length lines)) lines in
     let here : 0 < length (records_as table first) = subst (λ (l : List ℕ). 0 < length (records_as table l)) front c.in-Ok.ensures.some in
-    let more : 0 < length (records_of first) = omega (arith, here, count_as table first) in
+    let more : 0 < length (records_of first) = omega (arith, here, as-length table first) in
     let header : now.header ≡ take (unwrap_or c.header_end.result (length lines)) lines = c.set_header.ensures.header ∙ ap (λ n. take n lines) at in
-    let one : length (records_as reading now.header) ≡ 1 = count_as reading now.header ∙ (ap (λ (l : List ℕ). length (records_of l)) header ∙ front_one lines c.header_end.result some none more) in
+    let one : length (records_as reading now.header) ≡ 1 = as-length reading now.header ∙ (ap (λ (l : List ℕ). length (records_of l)) header ∙ front_one lines c.header_end.result some none more) in
     parted_lined reading now c.set_header.ensures.reading one (parted_lines lines c.header_end.result now cut header (c.set_header.ensures.lines ∙ ap (λ n. drop n lines) at))
