@@ -80,8 +80,8 @@ impl FilePlan {
     }
 }
 
-/// The plan of some words.
-fn plan_of(alloc: Global, words: PlanWords<'_>) -> Result<Plan, PlanFault>
+/// The plan of some words, if it reads fields as they are, between commas: what files come to is said of such fields only.
+pub fn plan_of(alloc: Global, words: PlanWords<'_>) -> Result<Plan, PlanFault>
     ensures plan { IfOk result (AskFor (words_of words.entry)) }
     ensures refused { IfErr result (HaveNoQuery (words_of words.entry)) }
 {
@@ -89,7 +89,7 @@ fn plan_of(alloc: Global, words: PlanWords<'_>) -> Result<Plan, PlanFault>
         return Err(PlanFault::Words);
     };
     match Plan::of_stream_words(alloc, command.as_slice()) {
-        Ok(plan) => Ok(plan),
+        Ok(plan) => { if plan.reading().is_plain() { Ok(plan) } else { Err(PlanFault::Words) } }
         Err(PlanAnswer::Memory) => Err(PlanFault::Memory),
         Err(PlanAnswer::Usage) => Err(PlanFault::Words),
     }

@@ -5,5 +5,5 @@
 mod file_plan;
 mod words;
 
-pub use file_plan::{FilePlan, PlanFault};
+pub use file_plan::{FilePlan, PlanFault, plan_of};
 pub use words::command_words;
