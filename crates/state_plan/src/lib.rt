@@ -6,4 +6,3 @@ mod file_plan;
 mod words;
 
 pub use file_plan::{FilePlan, PlanFault, plan_of};
-pub use words::command_words;

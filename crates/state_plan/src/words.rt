@@ -17,7 +17,7 @@ use std::str;
 const MOST_WORD: u64 = 1 << 20;
 
 /// The words of a command line that say the same as those of a head, if these are UTF-8. It takes memory for them.
-pub fn command_words(alloc: Global, words: PlanWords<'_>) -> Result<Option<Vec<String>>, AllocError>
+pub(crate) fn command_words(alloc: Global, words: PlanWords<'_>) -> Result<Option<Vec<String>>, AllocError>
     ensures { IfOk result (λ found. MatchOption found (HaveNoCommand (words_of words.entry)) (λ command. IsCommand (words_of words.entry) (map_list string_bytes command.items))) }
 {
     let mut command = Vec::new(alloc);
