@@ -125,16 +125,16 @@ STREAMS = [
         "--agg count --separator ab",
         b"g\n1\n",
         b"",
-        b'parstream: "ab" is not understood: --separator takes one ASCII character other than a double quote, as in'
-        b" ';', or the word tab; see parstream --help\n",
+        b'parstream: "ab" is not understood: --separator takes one character of ASCII that is no quote and ends no line, or'
+        b" tab; see parstream --help\n",
         2,
     ),
     (
         "--agg count --null 1,2,3,4,5,6,7,8,9",
         b"g\n1\n",
         b"",
-        b'parstream: "1,2,3,4,5,6,7,8,9" is not understood: --null takes one to eight texts between commas, of 248 bytes'
-        b" together at most, as in NA,NULL; see parstream --help\n",
+        b'parstream: "1,2,3,4,5,6,7,8,9" is not understood: --null takes one to eight texts between commas, at most 248 bytes'
+        b" in all; see parstream --help\n",
         2,
     ),
     (

@@ -150,8 +150,8 @@ values_text opt.Agg = codes "--agg takes one to eight of count, count:C, sum:C, 
 values_text opt.Where = codes "--where takes a column, one of = != < <= > >=, and an integer, or a decimal with --decimals, as in 'qty>=10'; after = and != also a text, as in region=north"
 values_text opt.Workers = codes "--workers takes a number from 0 to 64"
 values_text opt.Decimals = codes "--decimals takes a number from 0 to 18, or one for each column, as in 'price=2,weight=3'"
-values_text opt.Separator = codes "--separator takes one ASCII character other than a double quote, as in ';', or the word tab"
-values_text opt.Null = codes "--null takes one to eight texts between commas, of 248 bytes together at most, as in NA,NULL"
+values_text opt.Separator = codes "--separator takes one character of ASCII that is no quote and ends no line, or tab"
+values_text opt.Null = codes "--null takes one to eight texts between commas, at most 248 bytes in all"
 values_text opt.Trim = codes "--trim takes no value"
 
 -- what may come

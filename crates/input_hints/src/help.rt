@@ -40,11 +40,11 @@ sources, if it reads the states of all of them.
                    how many digits numbers may have after the point, up to 18:
                    2 for all columns, price=2,weight=3 for some; without it
                    numbers are integers
-  --separator BYTE the byte between fields: one character of ASCII other than a
-                   double quote, or tab; a comma if it is not given
+  --separator BYTE what comes between fields: one character, such as ';', or
+                   tab; a comma if it is not given. The table has commas
   --null TEXTS     one to eight texts between commas, as in NA,NULL,-: a field
-                   that is one of them is read as an empty one
-  --trim           white space at both ends of a field is left out
+                   that is one of them counts as empty
+  --trim           fields without the white space at their ends
   --workers N      0 to 64 threads besides the first; 2 if it is not given
   --order COLUMN   the rows by an item or a column of --group, as in sum:qty or
                    sum:qty:desc; year:numeric orders keys that are integers

@@ -427,10 +427,10 @@ impl Name {
                 "--decimals takes a number from 0 to 18, or one for each column, as in 'price=2,weight=3'"
             }
             Name::Separator => {
-                "--separator takes one ASCII character other than a double quote, as in ';', or the word tab"
+                "--separator takes one character of ASCII that is no quote and ends no line, or tab"
             }
             Name::Null => {
-                "--null takes one to eight texts between commas, of 248 bytes together at most, as in NA,NULL"
+                "--null takes one to eight texts between commas, at most 248 bytes in all"
             }
             Name::Trim => "--trim takes no value",
         }

@@ -91,7 +91,13 @@ pub fn plan_of(alloc: Global, words: PlanWords<'_>) -> Result<Option<Plan>, Allo
         return Ok(None);
     };
     match Plan::of_stream_words(alloc, command.as_slice()) {
-        Ok(plan) => { if plan.reading().is_plain() { Ok(Some(plan)) } else { Ok(None) } }
+        Ok(plan) => {
+            if plan.reading().is_plain() {
+                Ok(Some(plan))
+            } else {
+                Ok(None)
+            }
+        }
         Err(PlanAnswer::Usage) => Ok(None),
         Err(PlanAnswer::Memory) => Err(AllocError),
     }

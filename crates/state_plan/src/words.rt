@@ -17,7 +17,10 @@ use std::str;
 const MOST_WORD: u64 = 1 << 20;
 
 /// The words of a command line that say the same as those of a head, if these are UTF-8. It takes memory for them.
-pub(crate) fn command_words(alloc: Global, words: PlanWords<'_>) -> Result<Option<Vec<String>>, AllocError>
+pub(crate) fn command_words(
+    alloc: Global,
+    words: PlanWords<'_>,
+) -> Result<Option<Vec<String>>, AllocError>
     ensures { IfOk result (λ found. MatchOption found (HaveNoCommand (words_of words.entry)) (λ command. IsCommand (words_of words.entry) (map_list string_bytes command.items))) }
 {
     let mut command = Vec::new(alloc);
@@ -80,11 +83,7 @@ fn push_filters(alloc: Global, command: &mut Vec<String>, texts: &[u8]) -> Resul
 }
 
 /// Puts a text among the filters as an option at the end of some words, if it is UTF-8, and says whether it is.
-fn push_filter(
-    alloc: Global,
-    command: &mut Vec<String>,
-    text: &[u8],
-) -> Result<bool, AllocError>
+fn push_filter(alloc: Global, command: &mut Vec<String>, text: &[u8]) -> Result<bool, AllocError>
     ensures put { result ≡ Ok true → map_list string_bytes command.new.items ≡ map_list string_bytes command.old.items ++ filter_word text.now ∷ [] }
     ensures no_text { result ≡ Ok false → IsUtf8 text.now → ⊥ }
 {

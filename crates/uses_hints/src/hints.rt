@@ -216,10 +216,7 @@ const WRONG: [(&str, Option<(usize, Expected)>); 49] = [
         Some((3, Expected::Value(Name::Group))),
     ),
     // how fields are read
-    (
-        "--separator ; --null NA,NULL,- --trim --agg count --",
-        None,
-    ),
+    ("--separator ; --null NA,NULL,- --trim --agg count --", None),
     ("--separator=tab --agg count --null=", None),
     (
         "--agg count --separator \" --trim",
@@ -250,10 +247,7 @@ const WRONG: [(&str, Option<(usize, Expected)>); 49] = [
         "--agg count --null 1,2,3,4,5,6,7,8,9",
         Some((3, Expected::Value(Name::Null))),
     ),
-    (
-        "--null NA --agg count --null=-",
-        Some((4, Expected::Other)),
-    ),
+    ("--null NA --agg count --null=-", Some((4, Expected::Other))),
     // `--trim` has no value, so what comes after it is none
     (
         "--agg count --trim=yes",
@@ -266,10 +260,7 @@ const WRONG: [(&str, Option<(usize, Expected)>); 49] = [
     ("--agg count --trim yes", Some((3, Expected::Name))),
     ("--trim --agg count --trim", Some((3, Expected::Other))),
     ("--trim -- --agg count", Some((2, Expected::Nothing))),
-    (
-        "--agg --trim",
-        Some((1, Expected::Value(Name::Agg))),
-    ),
+    ("--agg --trim", Some((1, Expected::Value(Name::Agg)))),
 ];
 
 /// The longest query, with every option, has thirty words; one more word is not understood.
@@ -280,13 +271,17 @@ fn longest_query(rt: HostRuntime) -> Result<(), Fail> {
     assert!(rt; wrong_word(rt.alloc(), list.as_slice())?.is_none());
     let mut longer = list;
     longer.push(String::from_str(rt.alloc(), "more")?)?;
-    let wanted = Wrong { at: 30, expected: Expected::Nothing };
+    let wanted = Wrong {
+        at: 30,
+        expected: Expected::Nothing,
+    };
     assert!(rt; wrong_word(rt.alloc(), longer.as_slice())? == Some(wanted));
     Ok(())
 }
 
 /// All options of a query, each as often as it may be given.
-const LONGEST: &str = "--group g --agg count --where v>1 --where v>1 --where v>1 --where v>1 --where v>1 --where v>1 --where v>1 --where v>1 --workers 1 --decimals 1 --separator ; --null NA --trim --";
+const LONGEST: &str =
+    "--group g --agg count --where v>1 --where v>1 --where v>1 --where v>1 --where v>1 --where v>1 --where v>1 --where v>1 --workers 1 --decimals 1 --separator ; --null NA --trim --";
 
 #[test]
 fn wrong_words(rt: HostRuntime) -> Result<(), Fail> {
@@ -332,11 +327,11 @@ const REFUSED: [(&str, &str); 11] = [
     ),
     (
         "--agg count --separator \"",
-        "parstream: \"\\\"\" is not understood: --separator takes one ASCII character other than a double quote, as in ';', or the word tab; see parstream --help\n",
+        "parstream: \"\\\"\" is not understood: --separator takes one character of ASCII that is no quote and ends no line, or tab; see parstream --help\n",
     ),
     (
         "--agg count --null",
-        "parstream: a word is missing at the end: --null takes one to eight texts between commas, of 248 bytes together at most, as in NA,NULL; see parstream --help\n",
+        "parstream: a word is missing at the end: --null takes one to eight texts between commas, at most 248 bytes in all; see parstream --help\n",
     ),
     (
         "--agg count --trim=no",
