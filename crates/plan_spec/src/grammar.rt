@@ -2,7 +2,7 @@
 //! numbers of a column have.
 
 ghost use Rattle.std.specs.Prelude.{◌≡◌, ◌==◌, ◌≤◌, None, Some, All, IfOk, IfSome, IsTrue, bytes_eq, length, map, option_map, string_bytes, true, vec_len};
-ghost use Rattle.std.specs.List.{list_any, position_or_len};
+ghost use Rattle.std.specs.List.{count_by, list_any, position_or_len};
 ghost use Rattle.std.specs.Option.{option_map_or};
 ghost use Rattle.par_model.specs.Columns.{reads_column};
 ghost use Rattle.par_model.specs.Table.{kind_text};
@@ -454,10 +454,17 @@ fn is_separator(byte: u8) -> bool
 pub(crate) fn nulls(text: &str) -> Option<Text>
     ensures { result ≡ nulls_in text.now }
 {
-    if text.as_bytes().iter().filter(|byte| **byte == b',').count() > 7 {
+    let bytes = text.as_bytes();
+    if count_commas(bytes) > 7 {
         return None;
     }
-    Text::of(text.as_bytes())
+    Text::of(bytes)
+}
+
+fn count_commas(bytes: &[u8]) -> usize
+    ensures { result ≡ count_by (λ byte. byte == 44) bytes.now }
+{
+    bytes.iter().filter(|byte| **byte == b',').count()
 }
 
 /// Whether a plan is the one over the shared hash table.

@@ -3,7 +3,8 @@
 //! `clap` states what its parse gives as a function of the command and the words, so which words are a command line,
 //! and what each option was given, is said only in terms of that function.
 
-ghost use Rattle.std.specs.Prelude.{◌≡◌, IfOk, None, OnOk, codes, map, option_map, option_to_list, false, true, string_bytes};
+ghost use Rattle.std.specs.Prelude.{◌≡◌, IfOk, None, OnOk, bytes_eq, codes, map, option_map, option_to_list, false, true, string_bytes};
+ghost use Rattle.std.specs.Option.{option_map_or};
 ghost use Rattle.clap.specs.Words.{app_of, found_of, is_simple_and_free, matches_of, rows_of, with_rule};
 ghost use Rattle.plan_spec.specs.Options.{flag_in, is_command_line, option_of, pargather_command, parstream_command, repeated_of, value_of, values_of};
 ghost use Rattle.plan_spec.specs.declared.plan.PlanAnswer.TheVariants as answer;
@@ -104,11 +105,21 @@ pub(crate) fn stream_values<'a>(
         decimals: matches.get_str("decimals"),
         separator: matches.get_str("separator"),
         nulls: matches.get_str("null"),
-        trim: matches.get_flag("trim"),
+        trim: is_true(matches.get_str("trim")),
         workers: matches.get_str("workers"),
         plan: None,
         area_pages: None,
     })
+}
+
+/// Whether the value of an option that takes none says that it is given.
+fn is_true(value: Option<&str>) -> bool
+    ensures { result ≡ option_map_or (bytes_eq (codes "true")) (option_map (λ s. s.now) value.entry) false }
+{
+    match value {
+        Some(text) => text == "true",
+        None => false,
+    }
 }
 
 /// The list of a value, if there is one.

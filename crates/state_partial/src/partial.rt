@@ -21,8 +21,8 @@ use crate::no_part::{NoPart, WRITTEN};
 use crate::reading::read_part;
 use crate::words::PartWords;
 use par_io::{Sink, Source, write_whole};
-use plan_spec::{MOST_WORKERS, Plan, PlanAnswer};
-use state_plan::command_words;
+use plan_spec::{MOST_WORKERS, Plan};
+use state_plan::plan_of as plan_in;
 use std::alloc::Global;
 use std::sync::Wait;
 use std::thread::Threads;
@@ -171,15 +171,9 @@ fn plan_of(alloc: Global, asked: &PartWords<'_>) -> Result<Plan, NoPart>
     ensures plan { IfOk result (AskFor (asked_of asked.now).words) }
     ensures why { IfErr result (λ why. ((why ≡ no_part.Usage) × HaveNoQuery (asked_of asked.now).words fault.Words) ⊎ (why ≡ no_part.Stopped stop.Memory)) }
 {
-    let Ok(found) = command_words(alloc, asked.plan_words()) else {
-        return Err(NoPart::Stopped(Stop::Memory));
-    };
-    let Some(command) = found else {
-        return Err(NoPart::Usage);
-    };
-    match Plan::of_stream_words(alloc, command.as_slice()) {
-        Ok(plan) => Ok(plan),
-        Err(PlanAnswer::Usage) => Err(NoPart::Usage),
-        Err(PlanAnswer::Memory) => Err(NoPart::Stopped(Stop::Memory)),
+    match plan_in(alloc, asked.plan_words()) {
+        Ok(Some(plan)) => Ok(plan),
+        Ok(None) => Err(NoPart::Usage),
+        Err(_) => Err(NoPart::Stopped(Stop::Memory)),
     }
 }

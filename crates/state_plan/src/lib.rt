@@ -5,5 +5,4 @@
 mod file_plan;
 mod words;
 
-pub use file_plan::{FilePlan, PlanFault};
-pub use words::command_words;
+pub use file_plan::{FilePlan, PlanFault, plan_of};
