@@ -1,10 +1,11 @@
 -- What was found of bytes in which the comma and the separator were exchanged, said of the bytes of the input.
-use Rattle.std.proofs.Common.{◌≡◌, ◌+◌, ◌++◌, ◌∷◌, ◌∙◌, ℕ, List, Option, None, Some, IfSome, map, ap, sym, subst}
+use Rattle.std.proofs.Common.{◌≡◌, ◌+◌, ◌++◌, ◌∷◌, ◌∙◌, ℕ, List, Option, None, Some, IfSome, map, refl, ap, sym, subst}
 use Rattle.std.specs.Prelude.{option_map, string_bytes}
 use Rattle.std.proofs.lemmas.List.{map-append}
 use Rattle.csv.specs.Reading.{strip_bom}
 use Rattle.csv_rows.specs.Readings.{IsSeparator, exchanged, records_as, records_in}
 use Rattle.csv_rows.specs.Records.{record_at}
+use Rattle.csv_rows.proofs.Cleaned.{bytes-kept}
 use Rattle.csv_rows.proofs.Exchanges.{reads-exchanged, twice-all}
 use Rattle.par_model.specs.Named.{NamedPlan}
 use Rattle.par_model.specs.Outcome.{NoColumn, Outcome, Refused}
@@ -146,3 +147,15 @@ module _ (query : Query) (is : IsSeparator query.reading.separator) where
     few = g.few;
     all = all_told (g.header ∷ g.rows) left g.all;
   }
+
+  -- ---- a source of which nothing was exchanged, since fields are parted by commas
+
+  kept : (left : Option (List ℕ)) → query.reading.separator ≡ 44 → left ≡ option_map (map swap) left
+  kept None comma = refl
+  kept (Some bytes) comma = ap Some (bytes-kept query.reading.separator bytes comma)
+
+  pub tells_as_is : (left : Option (List ℕ)) (why : Stop) → query.reading.separator ≡ 44 → Tells (of_text query.reading) query left why → Tells (of_bytes query.reading) query left why
+  tells_as_is left why comma t = tells_of_bytes left why (subst (λ (o : Option (List ℕ)). Tells (of_text query.reading) query o why) (kept left comma) t)
+
+  pub groups_as_are : (left : Option (List ℕ)) (r : ReadGroups) → query.reading.separator ≡ 44 → AreGroupsOver (of_text query.reading) query left r → AreGroupsOver (of_bytes query.reading) query left r
+  groups_as_are left r comma g = groups_of_bytes left r (subst (λ (o : Option (List ℕ)). AreGroupsOver (of_text query.reading) query o r) (kept left comma) g)

@@ -218,7 +218,11 @@ fn part_header(alloc: Global, window: &mut Window) -> Result<RowStore, RowsAnswe
 }
 
 /// The line of a window's header as it is in the input.
-pub(crate) fn header_line(alloc: Global, plan: &Plan, window: &Window) -> Result<Vec<u8>, AllocError>
+pub(crate) fn header_line(
+    alloc: Global,
+    plan: &Plan,
+    window: &Window,
+) -> Result<Vec<u8>, AllocError>
     ensures { IfOk result (λ line. records_in plan.now.reading line.items ≡ records_as plan.now.reading window.now.header) }
 {
     let mut line = Vec::from_slice(alloc, window.header())?;

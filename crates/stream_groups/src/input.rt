@@ -45,7 +45,5 @@ pub fn read_input<R: Threads + Wait + Sync, S: Source, P: Progress>(
     ensures taken { Takes (option_map (map (exchanged plan.now.reading.separator)) (bare_left S.left source.old)) (exchanged_left S.left source.new) (bare_faults S.faults source.old) (bare_faults S.faults source.new) taken.old taken.new }
 {
     source.separate(plan.reading().separator);
-    read_groups(
-        rt, alloc, plan, workers, source, size, progress, taken,
-    )
+    read_groups(rt, alloc, plan, workers, source, size, progress, taken)
 }
