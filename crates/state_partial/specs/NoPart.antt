@@ -8,6 +8,7 @@ use Rattle.state_partial.specs.Words.{Asked, asked_in}
 use Rattle.state_partial.specs.declared.no_part.NoPart.{NoPart}
 use Rattle.state_partial.specs.declared.no_part.NoPart.TheVariants as no_part
 use Rattle.stream_groups.specs.Stops.{Tells, stop_says}
+use Rattle.stream_groups.specs.Ways.{of_bytes}
 use Rattle.stream_groups.specs.declared.stop.Stop.{Stop}
 use Rattle.stream_groups.specs.declared.stop.Stop.TheVariants as stop
 
@@ -31,7 +32,7 @@ pub record TellsOfPart (words : List (List ℕ)) (left : Option (List ℕ)) (why
   pub is_asked : asked_in words ≡ Some asked
   pub query : Query
   pub ask_for : AskFor asked.words query
-  pub tells : Tells query left why
+  pub tells : Tells (of_bytes query.reading) query left why
 
 -- why the reading or the writing ended: a refused row is no reason
 abbrev pub IsStopOf : List (List ℕ) → Option (List ℕ) → Stop → Type 0
