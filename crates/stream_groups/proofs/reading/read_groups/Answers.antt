@@ -78,5 +78,5 @@ returns-in_err-stream-2-clause-taken g c =
     c.loop.invariant.taken c.next_window.ensures.taken
 
 -- the first window is read as the plan says
-pub open-stream-requires-clause-lined : goal.open-stream-requires-clause-lined
-open-stream-requires-clause-lined g c = subst (λ (r : Reading). IsLined r c.in_ok-first.first.window) c.reading.ensures.value c.in_ok-first.ensures.lined
+pub open-requires-clause-lined : goal.open-requires-clause-lined
+open-requires-clause-lined g c κs within = subst (λ (r : Reading). IsLined r c.in_ok-first.first.window) c.reading.ensures.value c.in_ok-first.ensures.lined
