@@ -1,5 +1,5 @@
 -- A text that says how fields are read begins with an equals sign, so what comes after it is UTF-8 too.
-use Rattle.std.proofs.Common.{◌≡◌, ◌<◌, ◌≤◌, ◌⊎◌, ℕ, Bool, true, false, List, [], ◌∷◌, arith, codes, drop, get_or, inl, inr, length, refl}
+use Rattle.std.proofs.Common.{◌≡◌, ◌<◌, ◌≤◌, ◌⊎◌, ℕ, Bool, true, false, List, [], ◌∷◌, arith, codes, drop, get_or, inl, inr, length, refl, sym}
 use Rattle.std.proofs.lemmas.Bool.{eqb-true}
 use Rattle.std.proofs.lemmas.Slice.Eq.{bytes_eq-Decides}
 use Rattle.std.proofs.lemmas.Str.{IsCharBoundary-after_ascii, IsUtf8-drop}
@@ -18,7 +18,7 @@ left false b e = e
 
 -- bytes that begin with others have their first
 same_first : (byte first : ℕ) (text rest : List ℕ) → starts_with (λ a b. a == b) (byte ∷ text) (first ∷ rest) ≡ true → byte ≡ first
-same_first byte first text rest e = eqb-true byte first (left (byte == first) _ e)
+same_first byte first text rest e = sym (eqb-true first byte (left (first == byte) _ e))
 
 first_is : (byte first : ℕ) (text rest : List ℕ) → byte ∷ text ≡ first ∷ rest → byte ≡ first
 first_is byte first text rest e = cc e
