@@ -30,17 +30,25 @@ pargather_command = with_rule (with_rule (with_rule (with_rule (with_rule (with_
     (option_of (codes "plan") false))
     (option_of (codes "area-pages") false)
 
--- the options of parstream
-abbrev pub parstream_command : App
-parstream_command = with_rule (with_rule (with_rule (with_rule (with_rule (with_rule (with_rule (with_rule (bare (new_app (codes "parstream")))
+-- the options of parstream that say what is asked of the rows, and by how many workers
+abbrev pub asking_command : App
+asking_command = with_rule (with_rule (with_rule (with_rule (with_rule (bare (new_app (codes "parstream")))
     (option_of (codes "group") false))
     (option_of (codes "agg") true))
     (repeated_of (codes "where")))
     (option_of (codes "workers") false))
-    (option_of (codes "decimals") false))
+    (option_of (codes "decimals") false)
+
+-- with those that say how fields are read
+abbrev pub reading_command : App → App
+reading_command app = with_rule (with_rule (with_rule app
     (option_of (codes "separator") false))
     (option_of (codes "null") false))
     (flag_of (codes "trim"))
+
+-- the options of parstream
+abbrev pub parstream_command : App
+parstream_command = reading_command asking_command
 
 -- whether clap takes the words
 abbrev pub is_command_line : App → List (List ℕ) → Bool

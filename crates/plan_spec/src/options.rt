@@ -6,7 +6,7 @@
 ghost use Rattle.std.specs.Prelude.{◌≡◌, IfOk, None, OnOk, bytes_eq, codes, map, option_map, option_to_list, false, true, string_bytes};
 ghost use Rattle.std.specs.Option.{option_map_or};
 ghost use Rattle.clap.specs.Words.{app_of, found_of, is_simple_and_free, matches_of, rows_of, with_rule};
-ghost use Rattle.plan_spec.specs.Options.{flag_in, is_command_line, option_of, pargather_command, parstream_command, repeated_of, value_of, values_of};
+ghost use Rattle.plan_spec.specs.Options.{asking_command, flag_in, flag_of, is_command_line, option_of, pargather_command, parstream_command, reading_command, value_of, values_of};
 ghost use Rattle.plan_spec.specs.declared.plan.PlanAnswer.TheVariants as answer;
 
 use crate::PlanAnswer;
@@ -167,9 +167,17 @@ fn pargather<'a>(alloc: Global) -> Result<Command<'a>, AllocError>
     with_option(alloc, planned, "area-pages", false)
 }
 
-/// The command of parstream with its eight options, of which `--where` may be repeated and `--trim` has no value.
+/// The command of parstream with its eight options, of which `--where` may be repeated and `--trim` takes no value.
 fn parstream<'a>(alloc: Global) -> Result<Command<'a>, AllocError>
     ensures { IfOk result (λ c. app_of c ≡ parstream_command) }
+{
+    let asking = asking_options(alloc)?;
+    with_reading(alloc, asking)
+}
+
+/// Those that say what is asked of the rows, and by how many workers.
+fn asking_options<'a>(alloc: Global) -> Result<Command<'a>, AllocError>
+    ensures { IfOk result (λ c. app_of c ≡ asking_command) }
 {
     let bare = Command::new(alloc, "parstream").no_binary_name(true);
     let grouped = with_option(alloc, bare, "group", false)?;
@@ -180,14 +188,27 @@ fn parstream<'a>(alloc: Global) -> Result<Command<'a>, AllocError>
             .action(ArgAction::Append),
     )?;
     let staffed = with_option(alloc, filtered, "workers", false)?;
-    let pointed = with_option(alloc, staffed, "decimals", false)?;
-    let parted = with_option(alloc, pointed, "separator", false)?;
+    with_option(alloc, staffed, "decimals", false)
+}
+
+/// A command with those that say how fields are read.
+fn with_reading<'a>(alloc: Global, command: Command<'a>) -> Result<Command<'a>, AllocError>
+    ensures { IfOk result (λ c. app_of c ≡ reading_command (app_of command.entry)) }
+{
+    let parted = with_option(alloc, command, "separator", false)?;
     let emptied = with_option(alloc, parted, "null", false)?;
-    emptied.arg(
-        Arg::new(alloc, "trim")
-            .long("trim")
-            .action(ArgAction::SetTrue),
-    )
+    with_flag(alloc, emptied, "trim")
+}
+
+/// A command with one more option, which takes no value.
+fn with_flag<'a>(
+    alloc: Global,
+    command: Command<'a>,
+    name: &'a str,
+) -> Result<Command<'a>, AllocError>
+    ensures { IfOk result (λ c. app_of c ≡ with_rule (app_of command.entry) (flag_of name.entry.now)) }
+{
+    command.arg(Arg::new(alloc, name).long(name).action(ArgAction::SetTrue))
 }
 
 /// A command with one more option, which takes one value.

@@ -5,10 +5,11 @@ use Rattle.std.specs.List.{flat_map}
 use Rattle.std.proofs.lemmas.Bool.{leb-true}
 use Rattle.std.proofs.lemmas.List.{length-map}
 use Rattle.std.proofs.lemmas.List.Elements.{All-head, All-tail}
+use Rattle.csv_rows.specs.declared.cleaning.Reading.{Reading}
 use Rattle.par_model.specs.Named.{NamedFilter, NamedItem}
 use Rattle.plan_spec.specs.Grammar.{Places, all_some, filters_in, item_in, items_in, parts_of}
-use Rattle.plan_spec.specs.Options.{is_command_line, parstream_command, value_of, values_of}
-use Rattle.plan_spec.specs.Query.{Query, groups_given, items_given, number_given, places_given, query_by, stream_query_of}
+use Rattle.plan_spec.specs.Options.{flag_in, is_command_line, parstream_command, value_of, values_of}
+use Rattle.plan_spec.specs.Query.{Query, groups_given, items_given, number_given, places_given, query_by, reading_given, stream_query_of}
 use Rattle.state_file.specs.Text.{text_bytes}
 use Rattle.state_head.specs.Words.{Words}
 use Rattle.state_plan.specs.FilePlans.{AskFor}

@@ -3,7 +3,6 @@ use Rattle.std.specs.Prelude.{◌≡◌, ◌⊎◌, ℕ, List, None, Option, Som
 use Rattle.answer_text.specs.declared.status.TheConstants.{MISUSED, TOO_LARGE}
 use Rattle.plan_spec.specs.Query.{Query}
 use Rattle.state_plan.specs.FilePlans.{AskFor, HaveNoQuery}
-use Rattle.state_plan.specs.declared.file_plan.PlanFault.TheVariants as fault
 use Rattle.state_partial.specs.Words.{Asked, asked_in}
 use Rattle.state_partial.specs.declared.no_part.NoPart.{NoPart}
 use Rattle.state_partial.specs.declared.no_part.NoPart.TheVariants as no_part
@@ -24,7 +23,7 @@ no_part_says (no_part.Stopped why) = stop_says why
 
 -- words ask for no part, or for one of no plan
 abbrev pub AskForNone : List (List ℕ) → Type 0
-AskForNone words = (asked_in words ≡ None) ⊎ ((asked : Asked) × (asked_in words ≡ Some asked) × HaveNoQuery asked.words fault.Words)
+AskForNone words = (asked_in words ≡ None) ⊎ ((asked : Asked) × (asked_in words ≡ Some asked) × HaveNoQuery asked.words)
 
 -- words ask for a part, and a reason tells why bytes come to none by its plan
 pub record TellsOfPart (words : List (List ℕ)) (left : Option (List ℕ)) (why : Stop) : Type 0 where

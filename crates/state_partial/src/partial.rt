@@ -12,7 +12,6 @@ ghost use Rattle.state_partial.specs.Words.{asked_in, asked_of, words_after};
 ghost use Rattle.state_partial.specs.declared.no_part.NoPart.{NoPart};
 ghost use Rattle.state_partial.specs.declared.no_part.NoPart.TheVariants as no_part;
 ghost use Rattle.state_plan.specs.FilePlans.{AskFor, HaveNoQuery};
-ghost use Rattle.state_plan.specs.declared.file_plan.PlanFault.TheVariants as fault;
 ghost use Rattle.stream_groups.specs.Lines.{line};
 ghost use Rattle.stream_groups.specs.declared.stop.Stop.TheVariants as stop;
 
@@ -169,7 +168,7 @@ fn make_asked<R: Threads + Wait + Sync, S: Source, P: Progress>(
 /// The plan that is asked for.
 fn plan_of(alloc: Global, asked: &PartWords<'_>) -> Result<Plan, NoPart>
     ensures plan { IfOk result (AskFor (asked_of asked.now).words) }
-    ensures why { IfErr result (λ why. ((why ≡ no_part.Usage) × HaveNoQuery (asked_of asked.now).words fault.Words) ⊎ (why ≡ no_part.Stopped stop.Memory)) }
+    ensures why { IfErr result (λ why. ((why ≡ no_part.Usage) × HaveNoQuery (asked_of asked.now).words) ⊎ (why ≡ no_part.Stopped stop.Memory)) }
 {
     match plan_in(alloc, asked.plan_words()) {
         Ok(Some(plan)) => Ok(plan),

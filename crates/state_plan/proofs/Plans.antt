@@ -8,9 +8,15 @@ use Rattle.csv_rows.specs.Records.{record_at, records_of}
 use Rattle.par_model.specs.Named.{missing_name}
 use Rattle.plan_spec.specs.Query.{Query, stream_query_of}
 use Rattle.state_head.specs.Head.{Subject}
-use Rattle.state_plan.specs.FilePlans.{AskFor, HasNoPlan, IsNoHeader, LacksName}
+use Rattle.state_plan.specs.FilePlans.{AskFor, HasNoPlan, HaveNoPlan, IsNoHeader, LacksName}
 use Rattle.state_plan.specs.declared.file_plan.PlanFault.{PlanFault}
 use Rattle.state_plan.specs.declared.file_plan.PlanFault.TheVariants as fault
+
+pub by_words : (s : Subject) (why : PlanFault) → HaveNoPlan s.words why → HasNoPlan s why
+by_words s fault.Memory none = tt
+by_words s fault.Words none = none
+by_words s fault.Header none = absurd none
+by_words s fault.Column none = absurd none
 
 pub by_header : (s : Subject) (why : PlanFault) → IsNoHeader s.header why → HasNoPlan s why
 by_header s fault.Memory none = tt

@@ -3,6 +3,8 @@
 #![tactic(auto)]
 
 mod file_plan;
+mod plan;
 mod words;
 
-pub use file_plan::{FilePlan, PlanFault, plan_of};
+pub use file_plan::{FilePlan, PlanFault};
+pub use plan::plan_of;

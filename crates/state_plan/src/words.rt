@@ -98,7 +98,7 @@ fn push_filter(alloc: Global, command: &mut Vec<String>, text: &[u8]) -> Result<
 fn says_reading(text: &[u8]) -> bool
     ensures { result ≡ says_reading text.now }
 {
-    text.starts_with(b"=separator=") || text.starts_with(b"=null=") || text == b"=trim"
+    text.starts_with(b"=separator=") || text.starts_with(b"=null=") || text == b"=trim".as_slice()
 }
 
 /// Puts a word of these two parts at the end of some words, if the second is UTF-8, and says whether it is.
