@@ -1,9 +1,9 @@
 //! The windows of a source: how one is filled, and how the first is parted from its header.
 
-ghost use Rattle.std.specs.Prelude.{◌≡◌, ◌<◌, ◌≤◌, ◌+◌, ◌^◌, ◌++◌, ◌∷◌, ◌⊎◌, [], ℕ, List, Option, Err, IfErr, IfOk, OnErr, OnOk, length, string_bytes, true};
+ghost use Rattle.std.specs.Prelude.{◌≡◌, ◌<◌, ◌≤◌, ◌+◌, ◌^◌, ◌++◌, ◌∷◌, ◌⊎◌, [], ℕ, List, Option, Err, IfErr, IfOk, OnErr, OnOk, length, map, string_bytes, true};
 ghost use Rattle.std.specs.Io.KnownBytes.{IsAtEnd};
 ghost use Rattle.csv_rows.specs.Cuts.{IsCut};
-ghost use Rattle.csv_rows.specs.Readings.{records_as, records_in};
+ghost use Rattle.csv_rows.specs.Readings.{exchanged, records_as, records_in};
 ghost use Rattle.csv_rows.specs.Records.{record_at};
 ghost use Rattle.csv_rows.specs.declared.records.RowsAnswer.TheVariants as parsing;
 ghost use Rattle.par_io.specs.Faults.{Rose};
@@ -225,7 +225,14 @@ pub(crate) fn header_line(
 ) -> Result<Vec<u8>, AllocError>
     ensures { IfOk result (λ line. records_in plan.now.reading line.items ≡ records_as plan.now.reading window.now.header) }
 {
-    let mut line = Vec::from_slice(alloc, window.header())?;
-    exchange(line.as_mut_slice(), plan.reading().separator);
-    Ok(line)
+    let line = Vec::from_slice(alloc, window.header())?;
+    Ok(exchanged_line(line, plan.reading().separator))
+}
+
+/// A line in which the comma and the separator are exchanged.
+fn exchanged_line(mut line: Vec<u8>, separator: u8) -> Vec<u8>
+    ensures { result.items ≡ map (exchanged separator) line.items }
+{
+    exchange(line.as_mut_slice(), separator);
+    line
 }

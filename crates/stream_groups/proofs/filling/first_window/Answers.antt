@@ -10,10 +10,11 @@ use Rattle.split_run.specs.Pieces.{piece_records}
 use Rattle.text_lines.specs.Feeds.{count_feeds}
 use Rattle.text_lines.proofs.Counts.{count_append}
 use Rattle.stream_groups.specs.Begins.{IsLined}
-use Rattle.stream_groups.specs.Reading.{HasHeader, HasPart, HasRead, Reaches}
+use Rattle.stream_groups.specs.Reading.{HasAll, HasHeader, HasPart, HasRead, Reaches}
 use Rattle.stream_groups.specs.Stops.{Tells}
 use Rattle.stream_groups.specs.Ways.{of_text}
 use Rattle.stream_groups.specs.declared.stop.Stop.TheVariants as stop
+use Rattle.stream_groups.proofs.Refusals.{none_tells}
 use Rattle.stream_groups.proofs.Streams.{first_has, first_header, first_part, parted_begins}
 use Rattle.stream_groups.proofs.Takes.{takes_none, takes_then}
 use Rattle.stream_groups.proofs.Windows.{filled, read_nothing, window_fault, window_no_write, window_tells}
@@ -144,6 +145,21 @@ returns-in-Ok-part_header-clause-end g c =
     IfOk-weaker c.first_of.result _ _ (λ f first last. (c.in-Ok.ensures.filled.last (sym first.last ∙ last)).1) c.first_of.ensures.first
 
 -- ---- one without a record
+
+pub returns-in-Err-NoHeader-clause-why : goal.returns-in-Err-NoHeader-clause-why
+returns-in-Err-NoHeader-clause-why g c =
+    let from = g.S.Source.left c.args.source.now in
+    let old = g.S.Source.left c.loop.source in
+    let new = g.S.Source.left c.fill.new.source in
+    let full = c.fill.new.window in
+    let f = c.in-Ok.ensures.filled in
+    let reading = c.args.reading.now in
+    let so : full.reading ≡ reading = f.like.reading ∙ c.loop.invariant.reading_is in
+    let none : records_as reading full.lines ≡ [] = ap (λ (r : Reading). records_as r full.lines) (sym so) ∙ c.in-Err-NoHeader.ensures.no_header (ap Err c.in-Err-NoHeader.field-0-is) in
+    let reaches : Reaches reading from new (records_as reading full.lines) (c.loop.feeds + count_feeds full.lines) full.rest c.in-Ok.is_last =
+    filled reading from old new c.loop.window.rest full.lines full.rest [] c.loop.feeds c.in-Ok.is_last c.loop.invariant.read f.reads f.last f.seam f.line in
+    let all : HasAll reading from [] = subst (HasAll reading from) none (reaches.all c.if-is_last.true) in
+    λ query. none_tells reading query from all
 
 pub loop-preserved : goal.loop-preserved
 loop-preserved g c =
