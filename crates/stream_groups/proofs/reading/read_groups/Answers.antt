@@ -16,7 +16,7 @@ returns-in_err-first-clause-why g c =
     let from = g.S.Source.left c.args.source.now in
     let why = c.in_err-first.field-0.0 in
     let here : Tells (of_text c.args.plan.now.reading) c.args.plan.now from why =
-    subst (λ (r : Reading). Tells (of_text r) c.args.plan.now from why) c.reading.ensures.value (c.in_err-first.ensures.why c.args.plan.now) in
+    subst (λ (r : Reading). Tells (of_text r) c.args.plan.now from why) c.reading-reading.ensures.value (c.in_err-first.ensures.why c.args.plan.now) in
     search rules
 
 pub returns-in_err-bound-clause-why : goal.returns-in_err-bound-clause-why
@@ -29,7 +29,7 @@ returns-in_err-bound-clause-why g c =
     let rows = piece_rows f.window in
     let reading = c.args.plan.now.reading in
     let reaches : Reaches reading from (g.S.Source.left c.first_window.new.source) (piece_records f.window) (f.feeds + count_feeds f.window.lines) f.window.rest f.is_last =
-    subst (λ (r : Reading). Reaches r from (g.S.Source.left c.first_window.new.source) (piece_records f.window) (f.feeds + count_feeds f.window.lines) f.window.rest f.is_last) c.reading.ensures.value is.reaches in
+    subst (λ (r : Reading). Reaches r from (g.S.Source.left c.first_window.new.source) (piece_records f.window) (f.feeds + count_feeds f.window.lines) f.window.rest f.is_last) c.reading-reading.ensures.value is.reaches in
     let begun : Begins reading from (header ∷ rows) = subst (Begins reading from) is.header.records (begins reading from (g.S.Source.left c.first_window.new.source) (piece_records f.window) (f.feeds + count_feeds f.window.lines) f.window.rest f.is_last reaches) in
     let here : Tells (of_text reading) c.args.plan.now from why = missing_tells reading c.args.plan.now from (header ∷ rows) why begun (omega arith) c.in_err-bound.ensures.why in
     search rules
@@ -41,7 +41,7 @@ loop-init g c =
     let first = c.in_ok-first.ensures in
     let made = c.in_ok-stream.ensures in
     let f = c.in_ok-first.first in
-    let so = c.reading.ensures.value in
+    let so = c.reading-reading.ensures.value in
     let reaches : Reaches c.args.plan.now.reading from left (piece_records f.window) (f.feeds + count_feeds f.window.lines) f.window.rest f.is_last =
     subst (λ (r : Reading). Reaches r from left (piece_records f.window) (f.feeds + count_feeds f.window.lines) f.window.rest f.is_last) so first.reaches in
     let part : 0 < length f.window.lines → HasPart c.args.plan.now.reading from left (record_at f.header 0 ∷ []) f.feeds (f.window ∷ []) f.window.rest = λ some.
@@ -79,4 +79,4 @@ returns-in_err-stream-2-clause-taken g c =
 
 -- the first window is read as the plan says
 pub open-requires-clause-lined : goal.open-requires-clause-lined
-open-requires-clause-lined g c κs within = subst (λ (r : Reading). IsLined r c.in_ok-first.first.window) c.reading.ensures.value c.in_ok-first.ensures.lined
+open-requires-clause-lined g c κs within = subst (λ (r : Reading). IsLined r c.in_ok-first.first.window) c.reading-reading.ensures.value c.in_ok-first.ensures.lined
