@@ -9,6 +9,7 @@ pub mod Follows
 pub mod Gaps
 pub mod Groups
 pub mod Joined
+pub mod Kept
 pub mod LineEnds
 pub mod Machine
 pub mod Marks

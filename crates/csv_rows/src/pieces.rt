@@ -14,7 +14,7 @@ ghost use Rattle.csv_rows.specs.declared.records.RowsAnswer.TheVariants as answe
 use crate::cleaning::Reading;
 use crate::cut::find_cut;
 use crate::piece::Piece;
-use crate::reading::read_records;
+use crate::reading::{read_exchanged, read_records};
 use crate::records::{MOST_RECORDS, RowsAnswer};
 use std::alloc::Global;
 use std::thread::{Threads, join};
@@ -112,12 +112,11 @@ fn read_records_as(alloc: Global, reading: &Reading, bytes: &[u8]) -> Result<Pie
     ensures no_header { result ≡ Err answer.NoHeader → records_as reading.now bytes.now ≡ [] }
     ensures too_many { result ≡ Err answer.TooManyRows → MOST_RECORDS < length (records_as reading.now bytes.now) }
 {
-    let piece = match read_records(alloc, bytes) {
+    let piece = match read_exchanged(alloc, reading.separator, bytes) {
         Ok(piece) => piece,
         Err(why) => return Err(why),
     };
-    let swapped = piece.exchanged(reading.separator);
-    match swapped.cleaned(alloc, reading) {
+    match piece.cleaned(alloc, reading) {
         Ok(read) => Ok(read),
         Err(_) => Err(RowsAnswer::Memory),
     }

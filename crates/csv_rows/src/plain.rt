@@ -5,6 +5,8 @@
 //! csv's machine.
 
 ghost use Rattle.std.specs.Prelude.{◌≡◌, ◌≢◌, ◌≤◌, ◌<◌, IfOk, IfSome, OnSome, length};
+ghost use Rattle.csv.specs.Reading.{strip_bom};
+ghost use Rattle.csv_rows.specs.Places.{NoQuote};
 ghost use Rattle.csv_rows.specs.Plain.{plain_records};
 ghost use Rattle.csv_rows.specs.Records.{records_of};
 ghost use Rattle.csv_rows.specs.declared.records.RowsAnswer.TheVariants as answer;
@@ -25,6 +27,7 @@ pub(crate) fn read_plain(alloc: Global, bytes: &[u8]) -> Result<Option<Piece>, R
     ensures few { IfOk result (λ found. OnSome found (length (records_of bytes.now) ≤ MOST_RECORDS)) }
     ensures no_header { result ≢ Err answer.NoHeader }
     ensures too_many { result ≡ Err answer.TooManyRows → MOST_RECORDS < length (records_of bytes.now) }
+    ensures unquoted { IfOk result (λ found. OnSome found (NoQuote (strip_bom bytes.now))) }
 {
     let text = without_mark(bytes);
     if memchr(b'"', text).is_some() {
