@@ -12,8 +12,9 @@ mod progress;
 
 use input_hints::{Peeked, asked_of, refuse_input, refuse_words, tell};
 use par_io::{StdSink, StdSource};
-use par_stream::{NO_MEMORY, WINDOW_BYTES, say_usage, stream_table};
+use par_stream::{NO_MEMORY, WINDOW_BYTES, say_usage};
 use progress::ProgressLine;
+use shown_stream::{refuse_options, shown_table, take_options};
 use state_forms::{form_of, run_form};
 use state_partial::{part_words, partial_states};
 use std::env::Env;
@@ -79,17 +80,24 @@ fn main(rt: HostRuntime) -> ExitCode {
         );
         return ExitCode::from(status);
     }
-    if let Some(status) = refuse_words(rt.alloc(), words.as_slice(), &mut err) {
+    let Ok(taken) = take_options(rt.alloc(), words.as_slice()) else {
+        let _ = eprintln!(rt; "parstream: out of memory");
+        return ExitCode::from(NO_MEMORY);
+    };
+    if let Some(status) = refuse_words(rt.alloc(), taken.rest.as_slice(), &mut err) {
+        return ExitCode::from(status);
+    }
+    if let Some(status) = refuse_options(rt.alloc(), &taken, &mut err) {
         return ExitCode::from(status);
     }
     let mut source = Peeked::new(StdSource::new(rt.stdin()));
     if let Some(status) = refuse_input(&mut source, &mut err) {
         return ExitCode::from(status);
     }
-    let status = stream_table(
+    let status = shown_table(
         &rt,
         rt.alloc(),
-        words.as_slice(),
+        &taken,
         &mut source,
         &mut out,
         &mut err,

@@ -1,0 +1,90 @@
+-- What the options ask for, or what is wrong with them.
+use Rattle.std.specs.Prelude.{◌==◌, ◌&&◌, ◌-◌, ◌∷◌, [], ℕ, Bool, false, true, List, Option, None, Some, Result, Ok, Err, codes, if◌then◌else◌, length, nat_eq, nat_le, nat_lt, option_map, take}
+use Rattle.std.specs.Char.{is_ascii_digit}
+use Rattle.std.specs.List.{ends_with, list_all}
+use Rattle.std.specs.Str.Parse.{digits_value}
+use Rattle.shown_words.specs.Taking.{Took}
+use Rattle.shown_words.specs.declared.asked.Asked.{Asked}
+use Rattle.shown_words.specs.declared.asked.OrderBy.{OrderBy}
+use Rattle.shown_words.specs.declared.asked.Wrong.{Wrong}
+use Rattle.shown_words.specs.declared.asked.Wrong.TheVariants as wrong
+use Rattle.shown_words.specs.declared.taken.Name.{Name}
+use Rattle.shown_words.specs.declared.taken.Name.TheVariants as opt
+
+-- an order by the name of a column: whether its texts are integers, and whether the greatest come first
+pub record NamedOrder : Type 0 where
+  pub name : List ℕ
+  pub numeric : Bool
+  pub down : Bool
+
+-- an order if one is asked for, and the most rows if they are limited
+pub record NamedShown : Type 0 where
+  pub order : Option NamedOrder
+  pub limit : Option ℕ
+
+-- ---- an order
+
+abbrev pub has_end : List ℕ → List ℕ → Bool
+has_end text end = ends_with nat_eq text end
+
+abbrev pub without_end : List ℕ → ℕ → List ℕ
+without_end text size = take (length text - size) text
+
+-- a text without `:asc` or `:desc` at its end, and whether that was `:desc`
+abbrev pub direction_in : List ℕ → List ℕ × Bool
+direction_in text =
+    if has_end text (codes ":desc") then (without_end text 5, true)
+    else (if has_end text (codes ":asc") then (without_end text 4, false) else (text, false))
+
+-- a name, and `:numeric` if it is at the end
+abbrev pub named_in : List ℕ × Bool → NamedOrder
+named_in text =
+    if has_end text.0 (codes ":numeric") then record { name = without_end text.0 8; numeric = true; down = text.1 }
+    else record { name = text.0; numeric = false; down = text.1 }
+
+-- a name, and then `:numeric`, and `:asc` or `:desc`, each if it is there
+abbrev pub order_in : List ℕ → NamedOrder
+order_in text = named_in (direction_in text)
+
+-- ---- a limit
+
+-- the number that one to eighteen digits write
+abbrev pub limit_in : List ℕ → Option ℕ
+limit_in text = if (nat_lt 0 (length text) && nat_le (length text) 18) && list_all is_ascii_digit text then Some (digits_value 10 text) else None
+
+-- ---- all options
+
+-- the order of the values of `--order`: there may be one, with a name
+abbrev pub order_given : List (List ℕ) → Result (Option NamedOrder) Wrong
+order_given [] = Ok None
+order_given (text ∷ []) = if length (order_in text).name == 0 then Err (wrong.Value opt.Order) else Ok (Some (order_in text))
+order_given (text ∷ next ∷ rest) = Err (wrong.Twice opt.Order)
+
+-- the limit of a number, if it is one
+abbrev pub limit_by : Option ℕ → Result (Option ℕ) Wrong
+limit_by None = Err (wrong.Value opt.Limit)
+limit_by (Some limit) = Ok (Some limit)
+
+-- the limit of the values of `--limit`: there may be one
+abbrev pub limit_given : List (List ℕ) → Result (Option ℕ) Wrong
+limit_given [] = Ok None
+limit_given (text ∷ []) = limit_by (limit_in text)
+limit_given (text ∷ next ∷ rest) = Err (wrong.Twice opt.Limit)
+
+-- both, or the first thing that is wrong: a value that is missing, the order, the limit
+abbrev pub asked_by : Option Name → Result (Option NamedOrder) Wrong → Result (Option ℕ) Wrong → Result NamedShown Wrong
+asked_by (Some name) order limit = Err (wrong.Missing name)
+asked_by None (Err w) limit = Err w
+asked_by None (Ok order) (Err w) = Err w
+asked_by None (Ok order) (Ok limit) = Ok (record { order = order; limit = limit })
+
+-- what the options ask for
+abbrev pub asked_in : Took → Result NamedShown Wrong
+asked_in took = asked_by took.next (order_given took.orders) (limit_given took.limits)
+
+-- the same of the values of the code
+abbrev pub order_as : OrderBy → NamedOrder
+order_as order = record { name = order.name.now; numeric = order.numeric; down = order.down }
+
+abbrev pub asked_as : Asked → NamedShown
+asked_as asked = record { order = option_map order_as asked.order; limit = asked.limit }

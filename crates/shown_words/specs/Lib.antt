@@ -1,0 +1,4 @@
+pub mod Taking
+pub mod Words
+pub mod Asking
+pub mod Columns

@@ -1,0 +1,15 @@
+//! The options of a command line of `parstream` that say how a table is shown: `--order COLUMN`, with `:numeric`, `:asc` and
+//! `:desc` after it, and `--limit N`. They change no row and no group, so they are taken off the words, and what is left is the
+//! query. An option is a word and its value the next one, or both are one word with an equals sign between them.
+
+#![tactic(auto)]
+
+mod asked;
+mod columns;
+mod taken;
+mod wrong;
+
+pub use asked::{Asked, OrderBy, Wrong, asked_of};
+pub use columns::{Column, column_of, put_names};
+pub use taken::{Name, Taken, take_options};
+pub use wrong::{column_text, wrong_text};
