@@ -16,7 +16,6 @@ usage: parstream [--group COLUMNS] --agg ITEMS [--where FILTER]..
        parstream partial [--source I/N] [--group COLUMNS] --agg ITEMS ..
        parstream combine
        parstream finalize [--above RECORD] [--below RECORD]
-                 [--decimals PLACES] [--workers N] [--order COLUMN] [--limit N]
 
 Reads comma-separated records from the standard input, of which the first is the
 header, and writes a table with a row for each group.
@@ -44,9 +43,6 @@ sources, if it reads the states of all of them.
                    many there are; 0/1 if it is not given
   --above RECORD   with finalize: only the groups from this key on, and no header
   --below RECORD   with finalize: only the groups before this key
-  --order COLUMN   the rows by an item or a column of --group, as in sum:qty or
-                   sum:qty:desc; year:numeric orders keys that are integers
-  --limit N        at most the first N rows of the table
   -h, --help       this text
   --version        the program's version
 
