@@ -22,6 +22,7 @@ mod places;
 
 use crate::entry::ordered;
 use crate::line::lines;
+pub use line::size_to;
 pub use order::{By, Order, Shown};
 pub use places::places_in;
 use std::alloc::{AllocError, Global};

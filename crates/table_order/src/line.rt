@@ -63,7 +63,7 @@ fn between_quotes(text: &[u8]) -> &[u8]
 }
 
 /// How many bytes come before the first end of a line outside quotes, or of a field.
-fn size_to(text: &[u8], or_comma: bool) -> usize
+pub fn size_to(text: &[u8], or_comma: bool) -> usize
     ensures size { result ≡ size_to or_comma false text.now }
     ensures within { result ≤ length text.now }
 {

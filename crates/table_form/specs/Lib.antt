@@ -1,0 +1,6 @@
+pub mod Reading
+pub mod Tsv
+pub mod Number
+pub mod Json
+pub mod Aligned
+pub mod Forms

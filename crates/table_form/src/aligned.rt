@@ -1,0 +1,94 @@
+//! A table whose columns are aligned, for a reader: the header, a line of dashes, and the rows.
+
+ghost use Rattle.std.specs.Prelude.{◌≡◌, ◌++◌, ◌∷◌, ℕ, List, IfOk, OnOk, map, replicate};
+ghost use Rattle.csv.specs.Records.{fields_of};
+ghost use Rattle.csv.specs.Writing.{read_back};
+ghost use Rattle.par_model.specs.Table.{table_text};
+ghost use Rattle.table_form.specs.Aligned.{aligned_cell, aligned_row, aligned_text, dashes};
+
+use crate::row::{field_at, read_row};
+use crate::sizes::{characters, column_sizes, put_cell};
+use csv::ByteRecord;
+use std::alloc::{AllocError, Global};
+
+/// The text of a table whose columns are aligned. The first `keys` columns are texts.
+pub(crate) fn as_aligned(alloc: Global, text: &[u8], keys: usize) -> Result<Vec<u8>, AllocError>
+    ensures { IfOk result (λ out. (header : List (List ℕ)) (rows : List (List (List ℕ))) → text.now ≡ table_text (header ∷ rows) → out.items ≡ aligned_text keys (read_back header) (map read_back rows)) }
+{
+    let sizes = column_sizes(alloc, text)?;
+    let mut out = Vec::new(alloc);
+    let mut row = ByteRecord::new(alloc);
+    let mut buffer = Vec::new(alloc);
+    let mut cell = String::new(alloc);
+    let mut left = read_row(&mut row, &mut buffer, text)?;
+    put_row(&mut out, &mut cell, sizes.as_slice(), keys, &row)?;
+    put_dashes(&mut out, sizes.as_slice())?;
+    'rows: while !left.is_empty() {
+        left = read_row(&mut row, &mut buffer, left)?;
+        put_row(&mut out, &mut cell, sizes.as_slice(), keys, &row)?;
+    }
+    Ok(out)
+}
+
+/// Puts a row. What the cell has does not matter.
+fn put_row(
+    out: &mut Vec<u8>,
+    cell: &mut String,
+    sizes: &[usize],
+    keys: usize,
+    row: &ByteRecord,
+) -> Result<(), AllocError>
+    ensures { OnOk result (out.new.items ≡ out.old.items ++ aligned_row keys sizes.now (fields_of row.now)) }
+{
+    'fields: for at in 0..sizes.len() {
+        put_gap(out, at)?;
+        put_cell(cell, field_at(row, at))?;
+        put_aligned(out, cell.as_bytes(), at < keys, sizes[at])?;
+    }
+    out.push(b'\n')?;
+    Ok(())
+}
+
+/// Puts what comes before the column at a place: two spaces, unless it is the first.
+fn put_gap(out: &mut Vec<u8>, at: usize) -> Result<(), AllocError> {
+    if at > 0 {
+        out.extend_from_slice(b"  ")?;
+    }
+    Ok(())
+}
+
+/// Puts what is shown of a field in so many characters: a key to the left, a number to the right.
+fn put_aligned(out: &mut Vec<u8>, text: &[u8], is_key: bool, size: usize) -> Result<(), AllocError>
+    ensures { OnOk result (out.new.items ≡ out.old.items ++ aligned_cell is_key size text.now) }
+{
+    let spaces = size.saturating_sub(characters(text));
+    if is_key {
+        out.extend_from_slice(text)?;
+        put_times(out, spaces, b' ')
+    } else {
+        put_times(out, spaces, b' ')?;
+        out.extend_from_slice(text)
+    }
+}
+
+/// Puts a line of dashes under each column.
+fn put_dashes(out: &mut Vec<u8>, sizes: &[usize]) -> Result<(), AllocError>
+    ensures { OnOk result (out.new.items ≡ out.old.items ++ dashes sizes.now) }
+{
+    'columns: for at in 0..sizes.len() {
+        put_gap(out, at)?;
+        put_times(out, sizes[at], b'-')?;
+    }
+    out.push(b'\n')?;
+    Ok(())
+}
+
+/// Puts a byte so many times.
+fn put_times(out: &mut Vec<u8>, times: usize, byte: u8) -> Result<(), AllocError>
+    ensures { OnOk result (out.new.items ≡ out.old.items ++ replicate times byte) }
+{
+    for _at in 0..times {
+        out.push(byte)?;
+    }
+    Ok(())
+}

@@ -1,0 +1,182 @@
+//! A table as lines of JSON: an object a row.
+
+ghost use Rattle.std.specs.Prelude.{◌≡◌, ◌++◌, ◌∷◌, ℕ, List, IfOk, OnOk, map, nat_lt};
+ghost use Rattle.std.specs.List.{flat_map, list_any};
+ghost use Rattle.std.specs.Str.Lossy.{utf8_lossy};
+ghost use Rattle.csv.specs.Records.{fields_of};
+ghost use Rattle.csv.specs.Writing.{read_back};
+ghost use Rattle.par_model.specs.Table.{table_text};
+ghost use Rattle.table_form.specs.Json.{is_json_special, json_byte, json_field, json_name, json_row, json_string, json_text};
+
+use crate::number::is_number;
+use crate::row::{field_at, read_row};
+use csv::ByteRecord;
+use std::alloc::{AllocError, Global};
+use std::str;
+
+/// The text of a table as lines of JSON. The first `keys` columns are texts.
+pub(crate) fn as_json(alloc: Global, text: &[u8], keys: usize) -> Result<Vec<u8>, AllocError>
+    ensures { IfOk result (λ out. (header : List (List ℕ)) (rows : List (List (List ℕ))) → text.now ≡ table_text (header ∷ rows) → out.items ≡ json_text keys (read_back header) (map read_back rows)) }
+{
+    let mut out = Vec::new(alloc);
+    let mut row = ByteRecord::new(alloc);
+    let mut buffer = Vec::new(alloc);
+    let mut left = read_row(&mut row, &mut buffer, text)?;
+    let names = name_texts(alloc, &row)?;
+    'rows: while !left.is_empty() {
+        left = read_row(&mut row, &mut buffer, left)?;
+        put_row(&mut out, alloc, &names, keys, &row)?;
+    }
+    Ok(out)
+}
+
+/// What the names of the columns are in an object.
+fn name_texts(alloc: Global, header: &ByteRecord) -> Result<ByteRecord, AllocError>
+    ensures { IfOk result (λ names. fields_of names ≡ map json_name (fields_of header.now)) }
+{
+    let mut names = ByteRecord::new(alloc);
+    let mut name = Vec::new(alloc);
+    for at in 0..header.len() {
+        name.clear();
+        put_string(&mut name, alloc, field_at(header, at))?;
+        name.push(b':')?;
+        names.push_field(name.as_slice())?;
+    }
+    Ok(names)
+}
+
+/// Puts a row, under names that are as they are in an object.
+fn put_row(
+    out: &mut Vec<u8>,
+    alloc: Global,
+    names: &ByteRecord,
+    keys: usize,
+    row: &ByteRecord,
+) -> Result<(), AllocError>
+    ensures { OnOk result ((header : List (List ℕ)) → fields_of names.now ≡ map json_name header → out.new.items ≡ out.old.items ++ json_row keys header (fields_of row.now)) }
+{
+    out.push(b'{')?;
+    'fields: for at in 0..names.len() {
+        put_comma(out, at)?;
+        out.extend_from_slice(field_at(names, at))?;
+        put_field(out, alloc, at < keys, field_at(row, at))?;
+    }
+    out.extend_from_slice(b"}\n")
+}
+
+/// Puts what comes before the field at a place: a comma, unless it is the first.
+fn put_comma(out: &mut Vec<u8>, at: usize) -> Result<(), AllocError> {
+    if at > 0 {
+        out.push(b',')?;
+    }
+    Ok(())
+}
+
+/// Puts a field: that of a key as a string, and any other as a number or a null if it is one.
+fn put_field(out: &mut Vec<u8>, alloc: Global, is_key: bool, field: &[u8]) -> Result<(), AllocError>
+    ensures { OnOk result (out.new.items ≡ out.old.items ++ json_field is_key field.now) }
+{
+    if is_key {
+        return put_string(out, alloc, field);
+    }
+    if field.is_empty() {
+        return out.extend_from_slice(b"null");
+    }
+    if is_number(field) {
+        return out.extend_from_slice(field);
+    }
+    put_string(out, alloc, field)
+}
+
+/// Puts a string.
+fn put_string(out: &mut Vec<u8>, alloc: Global, text: &[u8]) -> Result<(), AllocError>
+    ensures { OnOk result (out.new.items ≡ out.old.items ++ json_string text.now) }
+{
+    out.push(b'"')?;
+    put_text(out, alloc, text)?;
+    out.push(b'"')?;
+    Ok(())
+}
+
+/// Puts what is between the quotes of a string. Only bytes that are not UTF-8 take memory besides.
+fn put_text(out: &mut Vec<u8>, alloc: Global, text: &[u8]) -> Result<(), AllocError>
+    ensures { OnOk result (out.new.items ≡ out.old.items ++ flat_map json_byte (utf8_lossy text.now)) }
+{
+    match str::from_utf8(text) {
+        Ok(_) => put_bytes(out, text),
+        Err(_) => {
+            let text = String::from_utf8_lossy(alloc, text)?;
+            put_bytes(out, text.as_bytes())
+        }
+    }
+}
+
+/// Puts bytes of a string.
+fn put_bytes(out: &mut Vec<u8>, bytes: &[u8]) -> Result<(), AllocError>
+    ensures { OnOk result (out.new.items ≡ out.old.items ++ flat_map json_byte bytes.now) }
+{
+    if !has_special(bytes) {
+        return out.extend_from_slice(bytes);
+    }
+    for byte in bytes {
+        put_byte(out, *byte)?;
+    }
+    Ok(())
+}
+
+/// Whether some byte is not written as it is.
+fn has_special(bytes: &[u8]) -> bool
+    ensures { result ≡ list_any is_json_special bytes.now }
+{
+    bytes.iter().any(|byte| is_special(*byte))
+}
+
+/// Whether a byte is not written as it is.
+fn is_special(byte: u8) -> bool
+    ensures { result ≡ is_json_special byte }
+{
+    byte < 32 || byte == b'"' || byte == b'\\'
+}
+
+/// Puts a byte of a string.
+fn put_byte(out: &mut Vec<u8>, byte: u8) -> Result<(), AllocError>
+    ensures { OnOk result (out.new.items ≡ out.old.items ++ json_byte byte) }
+{
+    match byte {
+        b'"' => out.extend_from_slice(b"\\\""),
+        b'\\' => out.extend_from_slice(b"\\\\"),
+        8 => out.extend_from_slice(b"\\b"),
+        b'\t' => out.extend_from_slice(b"\\t"),
+        b'\n' => out.extend_from_slice(b"\\n"),
+        12 => out.extend_from_slice(b"\\f"),
+        b'\r' => out.extend_from_slice(b"\\r"),
+        0..32 => put_code(out, byte),
+        _ => {
+            out.push(byte)?;
+            Ok(())
+        }
+    }
+}
+
+/// Puts a control character by its number.
+fn put_code(out: &mut Vec<u8>, byte: u8) -> Result<(), AllocError>
+    requires { byte < 32 }
+    ensures { OnOk result (out.new.items ≡ out.old.items ++ json_code byte) }
+{
+    out.extend_from_slice(b"\\u00")?;
+    out.push(digit(byte / 16))?;
+    out.push(digit(byte % 16))?;
+    Ok(())
+}
+
+/// A digit of base 16.
+fn digit(value: u8) -> u8
+    requires { value < 16 }
+    ensures { result ≡ digit_char value }
+{
+    if value < 10 {
+        b'0' + value
+    } else {
+        b'a' - 10 + value
+    }
+}

@@ -1,0 +1,61 @@
+//! How many characters the widest field of each column has.
+
+ghost use Rattle.std.specs.Prelude.{◌≡◌, ◌∷◌, ℕ, List, IfOk, OnOk, count_by, get_or, length, map, max};
+ghost use Rattle.csv.specs.Records.{fields_of};
+ghost use Rattle.csv.specs.Writing.{read_back};
+ghost use Rattle.par_model.specs.Table.{table_text};
+ghost use Rattle.table_form.specs.Aligned.{begins_character, characters, column_sizes, shown};
+
+use crate::row::{field_at, read_row};
+use csv::ByteRecord;
+use shown_text::put_escaped;
+use std::alloc::{AllocError, Global};
+
+/// How many characters the widest field of each column has as it is shown, its name among them.
+pub(crate) fn column_sizes(alloc: Global, text: &[u8]) -> Result<Vec<usize>, AllocError>
+{
+    let mut row = ByteRecord::new(alloc);
+    let mut buffer = Vec::new(alloc);
+    let mut cell = String::new(alloc);
+    let mut left = read_row(&mut row, &mut buffer, text)?;
+    let mut sizes = Vec::new(alloc);
+    sizes.resize(row.len(), 0)?;
+    widen(&mut sizes, &row, &mut cell)?;
+    'rows: while !left.is_empty() {
+        left = read_row(&mut row, &mut buffer, left)?;
+        widen(&mut sizes, &row, &mut cell)?;
+    }
+    Ok(sizes)
+}
+
+/// Makes each size at least that of a row's field. What the cell has does not matter.
+fn widen(sizes: &mut Vec<usize>, row: &ByteRecord, cell: &mut String) -> Result<(), AllocError>
+{
+    'columns: for at in 0..sizes.len() {
+        put_cell(cell, field_at(row, at))?;
+        sizes[at] = sizes[at].max(characters(cell.as_bytes()));
+    }
+    Ok(())
+}
+
+/// Makes a cell what is shown of a field.
+pub(crate) fn put_cell(cell: &mut String, field: &[u8]) -> Result<(), AllocError>
+    ensures { OnOk result (string_bytes cell.new ≡ shown field.now) }
+{
+    cell.clear();
+    put_escaped(cell, field)
+}
+
+/// How many characters a text of UTF-8 has.
+pub(crate) fn characters(text: &[u8]) -> usize
+    ensures { result ≡ characters text.now }
+{
+    text.iter().filter(|byte| begins_character(**byte)).count()
+}
+
+/// Whether a byte of UTF-8 begins a character.
+fn begins_character(byte: u8) -> bool
+    ensures { result ≡ begins_character byte }
+{
+    byte < 128 || byte >= 192
+}

@@ -1,0 +1,90 @@
+//! A table with its fields divided by tabs, as PostgreSQL's COPY writes it, but for nulls, which are empty.
+
+ghost use Rattle.std.specs.Prelude.{◌≡◌, ◌++◌, ℕ, List, IfOk, OnOk, map};
+ghost use Rattle.std.specs.List.{flat_map, list_any};
+ghost use Rattle.csv.specs.Records.{fields_of};
+ghost use Rattle.csv.specs.Writing.{read_back};
+ghost use Rattle.par_model.specs.Table.{table_text};
+ghost use Rattle.table_form.specs.Tsv.{is_tsv_special, tsv_byte, tsv_row, tsv_text};
+
+use crate::row::{field_at, read_row};
+use csv::ByteRecord;
+use std::alloc::{AllocError, Global};
+
+/// The text of a table with tabs.
+pub(crate) fn as_tsv(alloc: Global, text: &[u8]) -> Result<Vec<u8>, AllocError>
+    ensures { IfOk result (λ out. (table : List (List (List ℕ))) → text.now ≡ table_text table → out.items ≡ tsv_text (map read_back table)) }
+{
+    let mut out = Vec::new(alloc);
+    let mut row = ByteRecord::new(alloc);
+    let mut buffer = Vec::new(alloc);
+    let mut left = text;
+    'rows: while !left.is_empty() {
+        left = read_row(&mut row, &mut buffer, left)?;
+        put_row(&mut out, &row)?;
+    }
+    Ok(out)
+}
+
+/// Puts a row.
+fn put_row(out: &mut Vec<u8>, row: &ByteRecord) -> Result<(), AllocError>
+    ensures { OnOk result (out.new.items ≡ out.old.items ++ tsv_row (fields_of row.now)) }
+{
+    'fields: for at in 0..row.len() {
+        put_tab(out, at)?;
+        put_field(out, field_at(row, at))?;
+    }
+    out.push(b'\n')?;
+    Ok(())
+}
+
+/// Puts what comes before the field at a place: a tab, unless it is the first.
+fn put_tab(out: &mut Vec<u8>, at: usize) -> Result<(), AllocError> {
+    if at > 0 {
+        out.push(b'\t')?;
+    }
+    Ok(())
+}
+
+/// Puts a field.
+fn put_field(out: &mut Vec<u8>, field: &[u8]) -> Result<(), AllocError>
+    ensures { OnOk result (out.new.items ≡ out.old.items ++ flat_map tsv_byte field.now) }
+{
+    if !has_special(field) {
+        return out.extend_from_slice(field);
+    }
+    for byte in field {
+        put_byte(out, *byte)?;
+    }
+    Ok(())
+}
+
+/// Whether a field has a byte that is not written as it is.
+fn has_special(field: &[u8]) -> bool
+    ensures { result ≡ list_any is_tsv_special field.now }
+{
+    field.iter().any(|byte| is_special(*byte))
+}
+
+/// Whether a byte is not written as it is.
+fn is_special(byte: u8) -> bool
+    ensures { result ≡ is_tsv_special byte }
+{
+    byte == b'\t' || byte == b'\n' || byte == b'\r' || byte == b'\\'
+}
+
+/// Puts a byte of a field.
+fn put_byte(out: &mut Vec<u8>, byte: u8) -> Result<(), AllocError>
+    ensures { OnOk result (out.new.items ≡ out.old.items ++ tsv_byte byte) }
+{
+    match byte {
+        b'\t' => out.extend_from_slice(b"\\t"),
+        b'\n' => out.extend_from_slice(b"\\n"),
+        b'\r' => out.extend_from_slice(b"\\r"),
+        b'\\' => out.extend_from_slice(b"\\\\"),
+        _ => {
+            out.push(byte)?;
+            Ok(())
+        }
+    }
+}
