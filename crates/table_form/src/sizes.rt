@@ -12,8 +12,7 @@ use shown_text::put_escaped;
 use std::alloc::{AllocError, Global};
 
 /// How many characters the widest field of each column has as it is shown, its name among them.
-pub(crate) fn column_sizes(alloc: Global, text: &[u8]) -> Result<Vec<usize>, AllocError>
-{
+pub(crate) fn column_sizes(alloc: Global, text: &[u8]) -> Result<Vec<usize>, AllocError> {
     let mut row = ByteRecord::new(alloc);
     let mut buffer = Vec::new(alloc);
     let mut cell = String::new(alloc);
@@ -29,8 +28,7 @@ pub(crate) fn column_sizes(alloc: Global, text: &[u8]) -> Result<Vec<usize>, All
 }
 
 /// Makes each size at least that of a row's field. What the cell has does not matter.
-fn widen(sizes: &mut Vec<usize>, row: &ByteRecord, cell: &mut String) -> Result<(), AllocError>
-{
+fn widen(sizes: &mut Vec<usize>, row: &ByteRecord, cell: &mut String) -> Result<(), AllocError> {
     'columns: for at in 0..sizes.len() {
         put_cell(cell, field_at(row, at))?;
         sizes[at] = sizes[at].max(characters(cell.as_bytes()));

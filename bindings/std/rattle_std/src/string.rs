@@ -27,6 +27,18 @@ impl String {
         String(text)
     }
 
+    /// Bytes as a text, with U+FFFD for each sequence that is not UTF-8.
+    pub fn from_utf8_lossy(alloc: Global, bytes: &[u8]) -> Result<String, AllocError> {
+        let mut text = String::with_capacity(alloc, bytes.len())?;
+        for chunk in bytes.utf8_chunks() {
+            text.push_str(chunk.valid())?;
+            if !chunk.invalid().is_empty() {
+                text.push('\u{FFFD}')?;
+            }
+        }
+        Ok(text)
+    }
+
     /// No text, with room for so many bytes.
     pub fn with_capacity(alloc: Global, room: usize) -> Result<String, AllocError> {
         let mut text = String::new(alloc);
