@@ -47,14 +47,14 @@ json_field is_key field = if is_key then json_string field else json_value field
 abbrev pub json_name : List ℕ → List ℕ
 json_name name = json_string name ++ 58 ∷ []
 
--- the member of the column at a place
+-- the member of the column at a place, under names with their colons
 abbrev pub json_member : ℕ → List (List ℕ) → List (List ℕ) → ℕ → List ℕ
-json_member keys header row at = json_name (get_or header at []) ++ json_field (nat_lt at keys) (get_or row at [])
+json_member keys names row at = get_or names at [] ++ json_field (nat_lt at keys) (get_or row at [])
 
--- the object of a row, which has a member for each column of the header, and a line feed
+-- the object of a row, which has a member for each name, and a line feed
 abbrev pub json_row : ℕ → List (List ℕ) → List (List ℕ) → List ℕ
-json_row keys header row = codes "{" ++ (join_by (json_member keys header row) (44 ∷ []) (range_with_len 0 (length header)) ++ codes "}\n")
+json_row keys names row = codes "{" ++ (join_by (json_member keys names row) (44 ∷ []) (range_with_len 0 (length names)) ++ codes "}\n")
 
 -- the rows of a table, of which the first so many columns are keys
 abbrev pub json_text : ℕ → List (List ℕ) → List (List (List ℕ)) → List ℕ
-json_text keys header rows = concat (map (json_row keys header) rows)
+json_text keys header rows = concat (map (json_row keys (map json_name header)) rows)

@@ -6,10 +6,14 @@ ghost use Rattle.csv.specs.Writing.{read_back};
 ghost use Rattle.par_model.specs.Table.{table_text};
 ghost use Rattle.table_form.specs.Aligned.{aligned_cell, aligned_row, aligned_text, dashes};
 
+use crate::between::put_lead;
 use crate::row::{field_at, read_row};
 use crate::sizes::{characters, column_sizes, put_cell};
 use csv::ByteRecord;
 use std::alloc::{AllocError, Global};
+
+/// What comes between two columns.
+const GAP: &[u8] = b"  ";
 
 /// The text of a table whose columns are aligned. The first `keys` columns are texts.
 pub(crate) fn as_aligned(alloc: Global, text: &[u8], keys: usize) -> Result<Vec<u8>, AllocError>
@@ -41,19 +45,11 @@ fn put_row(
     ensures { OnOk result (out.new.items ≡ out.old.items ++ aligned_row keys sizes.now (fields_of row.now)) }
 {
     'fields: for at in 0..sizes.len() {
-        put_gap(out, at)?;
+        put_lead(out, at, GAP)?;
         put_cell(cell, field_at(row, at))?;
         put_aligned(out, cell.as_bytes(), at < keys, sizes[at])?;
     }
     out.push(b'\n')?;
-    Ok(())
-}
-
-/// Puts what comes before the column at a place: two spaces, unless it is the first.
-fn put_gap(out: &mut Vec<u8>, at: usize) -> Result<(), AllocError> {
-    if at > 0 {
-        out.extend_from_slice(b"  ")?;
-    }
     Ok(())
 }
 
@@ -76,7 +72,7 @@ fn put_dashes(out: &mut Vec<u8>, sizes: &[usize]) -> Result<(), AllocError>
     ensures { OnOk result (out.new.items ≡ out.old.items ++ dashes sizes.now) }
 {
     'columns: for at in 0..sizes.len() {
-        put_gap(out, at)?;
+        put_lead(out, at, GAP)?;
         put_times(out, sizes[at], b'-')?;
     }
     out.push(b'\n')?;

@@ -29,13 +29,13 @@ pub const FORMS: &str = "csv, tsv, json or aligned";
 pub fn form_of(name: &[u8]) -> Option<Form>
     ensures { result ≡ form_in name.now }
 {
-    if name == b"csv" {
+    if name == b"csv".as_slice() {
         Some(Form::Csv)
-    } else if name == b"tsv" {
+    } else if name == b"tsv".as_slice() {
         Some(Form::Tsv)
-    } else if name == b"json" {
+    } else if name == b"json".as_slice() {
         Some(Form::Json)
-    } else if name == b"aligned" {
+    } else if name == b"aligned".as_slice() {
         Some(Form::Aligned)
     } else {
         None

@@ -1,13 +1,15 @@
 //! A table as lines of JSON: an object a row.
 
-ghost use Rattle.std.specs.Prelude.{◌≡◌, ◌++◌, ◌∷◌, ℕ, List, IfOk, OnOk, map, nat_lt};
+ghost use Rattle.std.specs.Prelude.{◌≡◌, ◌<◌, ◌++◌, ◌∷◌, ℕ, List, IfOk, OnOk, map};
+ghost use Rattle.std.specs.Char.{digit_char};
 ghost use Rattle.std.specs.List.{flat_map, list_any};
 ghost use Rattle.std.specs.Str.Lossy.{utf8_lossy};
 ghost use Rattle.csv.specs.Records.{fields_of};
 ghost use Rattle.csv.specs.Writing.{read_back};
 ghost use Rattle.par_model.specs.Table.{table_text};
-ghost use Rattle.table_form.specs.Json.{is_json_special, json_byte, json_field, json_name, json_row, json_string, json_text};
+ghost use Rattle.table_form.specs.Json.{is_json_special, json_byte, json_code, json_control, json_field, json_name, json_row, json_string, json_text};
 
+use crate::between::put_lead;
 use crate::number::is_number;
 use crate::row::{field_at, read_row};
 use csv::ByteRecord;
@@ -53,23 +55,15 @@ fn put_row(
     keys: usize,
     row: &ByteRecord,
 ) -> Result<(), AllocError>
-    ensures { OnOk result ((header : List (List ℕ)) → fields_of names.now ≡ map json_name header → out.new.items ≡ out.old.items ++ json_row keys header (fields_of row.now)) }
+    ensures { OnOk result (out.new.items ≡ out.old.items ++ json_row keys (fields_of names.now) (fields_of row.now)) }
 {
     out.push(b'{')?;
     'fields: for at in 0..names.len() {
-        put_comma(out, at)?;
+        put_lead(out, at, b",")?;
         out.extend_from_slice(field_at(names, at))?;
         put_field(out, alloc, at < keys, field_at(row, at))?;
     }
     out.extend_from_slice(b"}\n")
-}
-
-/// Puts what comes before the field at a place: a comma, unless it is the first.
-fn put_comma(out: &mut Vec<u8>, at: usize) -> Result<(), AllocError> {
-    if at > 0 {
-        out.push(b',')?;
-    }
-    Ok(())
 }
 
 /// Puts a field: that of a key as a string, and any other as a number or a null if it is one.
@@ -142,19 +136,35 @@ fn is_special(byte: u8) -> bool
 fn put_byte(out: &mut Vec<u8>, byte: u8) -> Result<(), AllocError>
     ensures { OnOk result (out.new.items ≡ out.old.items ++ json_byte byte) }
 {
-    match byte {
-        b'"' => out.extend_from_slice(b"\\\""),
-        b'\\' => out.extend_from_slice(b"\\\\"),
-        8 => out.extend_from_slice(b"\\b"),
-        b'\t' => out.extend_from_slice(b"\\t"),
-        b'\n' => out.extend_from_slice(b"\\n"),
-        12 => out.extend_from_slice(b"\\f"),
-        b'\r' => out.extend_from_slice(b"\\r"),
-        0..32 => put_code(out, byte),
-        _ => {
-            out.push(byte)?;
-            Ok(())
-        }
+    if byte == b'"' {
+        out.extend_from_slice(b"\\\"")
+    } else if byte == b'\\' {
+        out.extend_from_slice(b"\\\\")
+    } else if byte < 32 {
+        put_control(out, byte)
+    } else {
+        out.push(byte)?;
+        Ok(())
+    }
+}
+
+/// Puts a control character.
+fn put_control(out: &mut Vec<u8>, byte: u8) -> Result<(), AllocError>
+    requires { byte < 32 }
+    ensures { OnOk result (out.new.items ≡ out.old.items ++ json_control byte) }
+{
+    if byte == 8 {
+        out.extend_from_slice(b"\\b")
+    } else if byte == b'\t' {
+        out.extend_from_slice(b"\\t")
+    } else if byte == b'\n' {
+        out.extend_from_slice(b"\\n")
+    } else if byte == 12 {
+        out.extend_from_slice(b"\\f")
+    } else if byte == b'\r' {
+        out.extend_from_slice(b"\\r")
+    } else {
+        put_code(out, byte)
     }
 }
 

@@ -6,6 +6,7 @@
 #![tactic(auto)]
 
 mod aligned;
+mod between;
 mod form;
 mod json;
 mod number;

@@ -1,19 +1,34 @@
 //! Whether a text is a number of JSON.
 
-ghost use Rattle.std.specs.Prelude.{◌≡◌};
-ghost use Rattle.std.specs.Char.{is_ascii_digit};
-ghost use Rattle.std.specs.List.{list_all};
-ghost use Rattle.table_form.specs.Number.{are_digits, is_json_number, is_whole, without_minus};
+ghost use Rattle.std.specs.Prelude.{◌≡◌, ◌≤◌, length};
+ghost use Rattle.std.specs.List.{position_or_len};
+ghost use Rattle.par_model.specs.Number.{is_point};
+ghost use Rattle.table_form.specs.Number.{are_digits, is_json_number, is_unsigned, is_whole, without_minus};
 
 /// Whether a text is a number of JSON without an exponent.
 pub(crate) fn is_number(text: &[u8]) -> bool
     ensures { result ≡ is_json_number text.now }
 {
-    let size = without_minus(text);
-    match size.iter().position(|byte| *byte == b'.') {
-        None => is_whole(size),
-        Some(at) => is_whole(&size[..at]) && are_digits(&size[at + 1..]),
+    is_unsigned(without_minus(text))
+}
+
+/// Whether a text is a number without a sign.
+fn is_unsigned(size: &[u8]) -> bool
+    ensures { result ≡ is_unsigned size.now }
+{
+    let at = point_place(size);
+    if at == size.len() {
+        return is_whole(size);
     }
+    is_whole(&size[..at]) && are_digits(&size[at + 1..])
+}
+
+/// Where the first point is, or the end of the bytes.
+fn point_place(size: &[u8]) -> usize
+    ensures place { result ≡ position_or_len is_point size.now }
+    ensures within { result ≤ length size.now }
+{
+    size.iter().take_while(|byte| **byte != b'.').count()
 }
 
 /// A text without its minus sign, if it has one.

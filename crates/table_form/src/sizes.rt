@@ -1,10 +1,11 @@
 //! How many characters the widest field of each column has.
 
-ghost use Rattle.std.specs.Prelude.{◌≡◌, ◌∷◌, ℕ, List, IfOk, OnOk, count_by, get_or, length, map, max};
+ghost use Rattle.std.specs.Prelude.{◌≡◌, ◌∷◌, ℕ, List, IfOk, OnOk, map, string_bytes};
 ghost use Rattle.csv.specs.Records.{fields_of};
 ghost use Rattle.csv.specs.Writing.{read_back};
 ghost use Rattle.par_model.specs.Table.{table_text};
 ghost use Rattle.table_form.specs.Aligned.{begins_character, characters, column_sizes, shown};
+ghost use Rattle.table_form.specs.Sizes.{AreWidened};
 
 use crate::row::{field_at, read_row};
 use csv::ByteRecord;
@@ -12,7 +13,9 @@ use shown_text::put_escaped;
 use std::alloc::{AllocError, Global};
 
 /// How many characters the widest field of each column has as it is shown, its name among them.
-pub(crate) fn column_sizes(alloc: Global, text: &[u8]) -> Result<Vec<usize>, AllocError> {
+pub(crate) fn column_sizes(alloc: Global, text: &[u8]) -> Result<Vec<usize>, AllocError>
+    ensures { IfOk result (λ sizes. (header : List (List ℕ)) (rows : List (List (List ℕ))) → text.now ≡ table_text (header ∷ rows) → sizes.items ≡ column_sizes (read_back header) (map read_back rows)) }
+{
     let mut row = ByteRecord::new(alloc);
     let mut buffer = Vec::new(alloc);
     let mut cell = String::new(alloc);
@@ -28,10 +31,13 @@ pub(crate) fn column_sizes(alloc: Global, text: &[u8]) -> Result<Vec<usize>, All
 }
 
 /// Makes each size at least that of a row's field. What the cell has does not matter.
-fn widen(sizes: &mut Vec<usize>, row: &ByteRecord, cell: &mut String) -> Result<(), AllocError> {
+fn widen(sizes: &mut Vec<usize>, row: &ByteRecord, cell: &mut String) -> Result<(), AllocError>
+    ensures { OnOk result (AreWidened sizes.old.items sizes.new.items (fields_of row.now)) }
+{
     'columns: for at in 0..sizes.len() {
         put_cell(cell, field_at(row, at))?;
-        sizes[at] = sizes[at].max(characters(cell.as_bytes()));
+        let size = characters(cell.as_bytes());
+        sizes[at] = sizes[at].max(size);
     }
     Ok(())
 }

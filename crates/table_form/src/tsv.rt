@@ -7,6 +7,7 @@ ghost use Rattle.csv.specs.Writing.{read_back};
 ghost use Rattle.par_model.specs.Table.{table_text};
 ghost use Rattle.table_form.specs.Tsv.{is_tsv_special, tsv_byte, tsv_row, tsv_text};
 
+use crate::between::put_lead;
 use crate::row::{field_at, read_row};
 use csv::ByteRecord;
 use std::alloc::{AllocError, Global};
@@ -31,18 +32,10 @@ fn put_row(out: &mut Vec<u8>, row: &ByteRecord) -> Result<(), AllocError>
     ensures { OnOk result (out.new.items ≡ out.old.items ++ tsv_row (fields_of row.now)) }
 {
     'fields: for at in 0..row.len() {
-        put_tab(out, at)?;
+        put_lead(out, at, b"\t")?;
         put_field(out, field_at(row, at))?;
     }
     out.push(b'\n')?;
-    Ok(())
-}
-
-/// Puts what comes before the field at a place: a tab, unless it is the first.
-fn put_tab(out: &mut Vec<u8>, at: usize) -> Result<(), AllocError> {
-    if at > 0 {
-        out.push(b'\t')?;
-    }
     Ok(())
 }
 
@@ -77,14 +70,16 @@ fn is_special(byte: u8) -> bool
 fn put_byte(out: &mut Vec<u8>, byte: u8) -> Result<(), AllocError>
     ensures { OnOk result (out.new.items ≡ out.old.items ++ tsv_byte byte) }
 {
-    match byte {
-        b'\t' => out.extend_from_slice(b"\\t"),
-        b'\n' => out.extend_from_slice(b"\\n"),
-        b'\r' => out.extend_from_slice(b"\\r"),
-        b'\\' => out.extend_from_slice(b"\\\\"),
-        _ => {
-            out.push(byte)?;
-            Ok(())
-        }
+    if byte == b'\t' {
+        out.extend_from_slice(b"\\t")
+    } else if byte == b'\n' {
+        out.extend_from_slice(b"\\n")
+    } else if byte == b'\r' {
+        out.extend_from_slice(b"\\r")
+    } else if byte == b'\\' {
+        out.extend_from_slice(b"\\\\")
+    } else {
+        out.push(byte)?;
+        Ok(())
     }
 }
