@@ -1,6 +1,7 @@
 //! A table whose columns are aligned, for a reader: the header, a line of dashes, and the rows.
 
 ghost use Rattle.std.specs.Prelude.{◌≡◌, ◌++◌, ◌∷◌, ℕ, List, IfOk, OnOk, map, replicate};
+ghost use Rattle.std.specs.List.{concat};
 ghost use Rattle.csv.specs.Records.{fields_of};
 ghost use Rattle.csv.specs.Writing.{read_back};
 ghost use Rattle.par_model.specs.Table.{table_text};
@@ -20,18 +21,37 @@ pub(crate) fn as_aligned(alloc: Global, text: &[u8], keys: usize) -> Result<Vec<
     ensures { IfOk result (λ out. (header : List (List ℕ)) (rows : List (List (List ℕ))) → text.now ≡ table_text (header ∷ rows) → out.items ≡ aligned_text keys (read_back header) (map read_back rows)) }
 {
     let sizes = column_sizes(alloc, text)?;
+    let mut row = ByteRecord::new(alloc);
+    let mut buffer = Vec::new(alloc);
+    let rows = read_row(&mut row, &mut buffer, text)?;
     let mut out = Vec::new(alloc);
+    let mut cell = String::new(alloc);
+    put_row(&mut out, &mut cell, sizes.as_slice(), keys, &row)?;
+    put_dashes(&mut out, sizes.as_slice())?;
+    put_rows(&mut out, alloc, sizes.as_slice(), keys, rows)?;
+    Ok(out)
+}
+
+/// Puts the rows of a text.
+fn put_rows(
+    out: &mut Vec<u8>,
+    alloc: Global,
+    sizes: &[usize],
+    keys: usize,
+    text: &[u8],
+) -> Result<(), AllocError>
+    ensures { OnOk result ((rows : List (List (List ℕ))) → text.now ≡ table_text rows → out.new.items ≡ out.old.items ++ concat (map (aligned_row keys sizes.now) (map read_back rows))) }
+{
     let mut row = ByteRecord::new(alloc);
     let mut buffer = Vec::new(alloc);
     let mut cell = String::new(alloc);
-    let mut left = read_row(&mut row, &mut buffer, text)?;
-    put_row(&mut out, &mut cell, sizes.as_slice(), keys, &row)?;
-    put_dashes(&mut out, sizes.as_slice())?;
+    let mut left = text;
     'rows: while !left.is_empty() {
-        left = read_row(&mut row, &mut buffer, left)?;
-        put_row(&mut out, &mut cell, sizes.as_slice(), keys, &row)?;
+        let next = read_row(&mut row, &mut buffer, left)?;
+        put_row(out, &mut cell, sizes, keys, &row)?;
+        left = next;
     }
-    Ok(out)
+    Ok(())
 }
 
 /// Puts a row. What the cell has does not matter.

@@ -2,7 +2,7 @@
 
 ghost use Rattle.std.specs.Prelude.{◌≡◌, ◌<◌, ◌++◌, ◌∷◌, ℕ, List, IfOk, OnOk, map};
 ghost use Rattle.std.specs.Char.{digit_char};
-ghost use Rattle.std.specs.List.{flat_map, list_any};
+ghost use Rattle.std.specs.List.{concat, flat_map, list_any};
 ghost use Rattle.std.specs.Str.Lossy.{utf8_lossy};
 ghost use Rattle.csv.specs.Records.{fields_of};
 ghost use Rattle.csv.specs.Writing.{read_back};
@@ -20,16 +20,34 @@ use std::str;
 pub(crate) fn as_json(alloc: Global, text: &[u8], keys: usize) -> Result<Vec<u8>, AllocError>
     ensures { IfOk result (λ out. (header : List (List ℕ)) (rows : List (List (List ℕ))) → text.now ≡ table_text (header ∷ rows) → out.items ≡ json_text keys (read_back header) (map read_back rows)) }
 {
-    let mut out = Vec::new(alloc);
     let mut row = ByteRecord::new(alloc);
     let mut buffer = Vec::new(alloc);
-    let mut left = read_row(&mut row, &mut buffer, text)?;
+    let rows = read_row(&mut row, &mut buffer, text)?;
     let names = name_texts(alloc, &row)?;
-    'rows: while !left.is_empty() {
-        left = read_row(&mut row, &mut buffer, left)?;
-        put_row(&mut out, alloc, &names, keys, &row)?;
-    }
+    let mut out = Vec::new(alloc);
+    put_rows(&mut out, alloc, &names, keys, rows)?;
     Ok(out)
+}
+
+/// Puts the rows of a text, under names with their colons.
+fn put_rows(
+    out: &mut Vec<u8>,
+    alloc: Global,
+    names: &ByteRecord,
+    keys: usize,
+    text: &[u8],
+) -> Result<(), AllocError>
+    ensures { OnOk result ((rows : List (List (List ℕ))) → text.now ≡ table_text rows → out.new.items ≡ out.old.items ++ concat (map (json_row keys (fields_of names.now)) (map read_back rows))) }
+{
+    let mut row = ByteRecord::new(alloc);
+    let mut buffer = Vec::new(alloc);
+    let mut left = text;
+    'rows: while !left.is_empty() {
+        let next = read_row(&mut row, &mut buffer, left)?;
+        put_row(out, alloc, names, keys, &row)?;
+        left = next;
+    }
+    Ok(())
 }
 
 /// What the names of the columns are in an object.
@@ -47,7 +65,7 @@ fn name_texts(alloc: Global, header: &ByteRecord) -> Result<ByteRecord, AllocErr
     Ok(names)
 }
 
-/// Puts a row, under names that are as they are in an object.
+/// Puts a row, under names with their colons.
 fn put_row(
     out: &mut Vec<u8>,
     alloc: Global,

@@ -49,11 +49,14 @@ fn read_field(row: &mut ByteRecord, buffer: &mut Vec<u8>, text: &[u8]) -> Result
     ensures field { OnOk result ((field : List ℕ) → IsFieldText field text.now → fields_of row.new ≡ fields_of row.old ++ field ∷ []) }
     ensures partial { OnOk result (partial_of row.new ≡ []) }
 {
-    if !begins_with(text, b'"') {
-        return row.push_field(text);
+    if begins_with(text, b'"') {
+        put_once(buffer, between_quotes(text))?;
+        row.push_field(buffer.as_slice())?;
+        Ok(())
+    } else {
+        row.push_field(text)?;
+        Ok(())
     }
-    put_once(buffer, between_quotes(text))?;
-    row.push_field(buffer.as_slice())
 }
 
 /// The bytes between the quotes of a field's text.

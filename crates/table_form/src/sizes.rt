@@ -5,7 +5,7 @@ ghost use Rattle.csv.specs.Records.{fields_of};
 ghost use Rattle.csv.specs.Writing.{read_back};
 ghost use Rattle.par_model.specs.Table.{table_text};
 ghost use Rattle.table_form.specs.Aligned.{begins_character, characters, column_sizes, shown};
-ghost use Rattle.table_form.specs.Sizes.{AreWidened};
+ghost use Rattle.table_form.specs.Sizes.{AreWide, AreWidened};
 
 use crate::row::{field_at, read_row};
 use csv::ByteRecord;
@@ -18,16 +18,29 @@ pub(crate) fn column_sizes(alloc: Global, text: &[u8]) -> Result<Vec<usize>, All
 {
     let mut row = ByteRecord::new(alloc);
     let mut buffer = Vec::new(alloc);
-    let mut cell = String::new(alloc);
-    let mut left = read_row(&mut row, &mut buffer, text)?;
+    let rows = read_row(&mut row, &mut buffer, text)?;
     let mut sizes = Vec::new(alloc);
     sizes.resize(row.len(), 0)?;
+    let mut cell = String::new(alloc);
     widen(&mut sizes, &row, &mut cell)?;
-    'rows: while !left.is_empty() {
-        left = read_row(&mut row, &mut buffer, left)?;
-        widen(&mut sizes, &row, &mut cell)?;
-    }
+    widen_all(&mut sizes, alloc, rows)?;
     Ok(sizes)
+}
+
+/// Makes each size at least that of the fields of all rows of a text.
+fn widen_all(sizes: &mut Vec<usize>, alloc: Global, text: &[u8]) -> Result<(), AllocError>
+    ensures { OnOk result ((rows : List (List (List ℕ))) → text.now ≡ table_text rows → AreWide sizes.old.items sizes.new.items (map read_back rows)) }
+{
+    let mut row = ByteRecord::new(alloc);
+    let mut buffer = Vec::new(alloc);
+    let mut cell = String::new(alloc);
+    let mut left = text;
+    'rows: while !left.is_empty() {
+        let next = read_row(&mut row, &mut buffer, left)?;
+        widen(sizes, &row, &mut cell)?;
+        left = next;
+    }
+    Ok(())
 }
 
 /// Makes each size at least that of a row's field. What the cell has does not matter.
@@ -37,7 +50,9 @@ fn widen(sizes: &mut Vec<usize>, row: &ByteRecord, cell: &mut String) -> Result<
     'columns: for at in 0..sizes.len() {
         put_cell(cell, field_at(row, at))?;
         let size = characters(cell.as_bytes());
-        sizes[at] = sizes[at].max(size);
+        if size > sizes[at] {
+            sizes[at] = size;
+        }
     }
     Ok(())
 }

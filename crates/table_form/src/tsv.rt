@@ -21,8 +21,9 @@ pub(crate) fn as_tsv(alloc: Global, text: &[u8]) -> Result<Vec<u8>, AllocError>
     let mut buffer = Vec::new(alloc);
     let mut left = text;
     'rows: while !left.is_empty() {
-        left = read_row(&mut row, &mut buffer, left)?;
+        let next = read_row(&mut row, &mut buffer, left)?;
         put_row(&mut out, &row)?;
+        left = next;
     }
     Ok(out)
 }

@@ -1,0 +1,11 @@
+use Rattle.std.proofs.Common.{length}
+use Rattle.table_form.specs.Aligned.{aligned_row}
+use Rattle.table_form.proofs.Walks.{Walks}
+use Rattle.table_form.proofs.aligned.put_rows.Given as goal
+
+-- what is left of the text, and what was put of the rows before it
+abbrev pub invariant-rows : goal.invariant-rows
+invariant-rows l = Walks (aligned_row l.keys l.sizes) l.text l.left l.fn.out.items l.out.items
+
+abbrev pub decreases-rows : goal.decreases-rows
+decreases-rows l = length l.left
