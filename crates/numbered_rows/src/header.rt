@@ -1,0 +1,54 @@
+//! The header of a table that has none.
+
+ghost use Rattle.std.specs.Prelude.{◌≡◌, ◌∷◌, ℕ, IfOk, List, OnOk, length};
+ghost use Rattle.csv_rows.specs.Records.{records_of};
+ghost use Rattle.numbered_rows.specs.Numbers.{header_text, headed, numbers_text, width_of};
+
+use csv_rows::{RowsAnswer, rows, without_mark};
+use std::alloc::{AllocError, Global};
+
+/// The front of a table behind a header, and without a byte order mark. An error means that memory ran out.
+pub(crate) fn headed(alloc: Global, front: &[u8]) -> Result<Vec<u8>, AllocError>
+    ensures { IfOk result (λ text. text.items ≡ headed (width_of front.now) front.now) }
+{
+    let width = width_of(alloc, front)?;
+    let mut text = header_text(alloc, width)?;
+    text.extend_from_slice(without_mark(front))?;
+    Ok(text)
+}
+
+/// How many fields the first record has: none if there is no record.
+fn width_of(alloc: Global, front: &[u8]) -> Result<u32, AllocError>
+    ensures { IfOk result (λ width. width ≡ width_of front.now) }
+{
+    match rows(alloc, front) {
+        Ok(store) => Ok(store.width(0)),
+        Err(RowsAnswer::NoHeader) => Ok(0),
+        Err(_) => Err(AllocError),
+    }
+}
+
+/// The numbers from 1 on with commas between them, and a carriage return; nothing if there are none.
+fn header_text(alloc: Global, width: u32) -> Result<Vec<u8>, AllocError>
+    ensures { IfOk result (λ text. text.items ≡ header_text width) }
+{
+    let mut text = Vec::new(alloc);
+    if width == 0 {
+        return Ok(text);
+    }
+    'columns: for at in 0..width {
+        if at > 0 {
+            text.push(b',')?;
+        }
+        put_number(&mut text, u64::from(at) + 1)?;
+    }
+    text.push(b'\r')?;
+    Ok(text)
+}
+
+/// Puts a number.
+fn put_number(text: &mut Vec<u8>, number: u64) -> Result<(), AllocError>
+    ensures { OnOk result (text.new.items ≡ text.old.items ++ decimal number) }
+{
+    text.extend_from_slice(itoa::Buffer::new().format(number).as_bytes())
+}

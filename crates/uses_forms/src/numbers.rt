@@ -1,0 +1,33 @@
+//! What no clause says: that the reads succeed, and how their bytes read.
+
+use numbered_rows::Numbered;
+use par_io::{MemSource, Source};
+use std::test::Fail;
+
+/// A table, and what a source gives of it that is asked for numbers.
+const TABLES: [(&[u8], &[u8]); 6] = [
+    (b"a,b\nc,d\n", b"1,2\ra,b\nc,d\n"),
+    (b"\xef\xbb\xbfx\ny\n", b"1\rx\ny\n"),
+    (b"\n\"x,\n\",y,\n1,2,3\n", b"1,2,3\r\n\"x,\n\",y,\n1,2,3\n"),
+    (b"a,\"b", b"1,2\ra,\"b"),
+    (b"\r\n\n", b"\r\n\n"),
+    (b"", b""),
+];
+
+#[test]
+fn numbers(rt: HostRuntime) -> Result<(), Fail> {
+    for (table, wanted) in TABLES {
+        let bytes = Vec::from_slice(rt.alloc(), table)?;
+        let source = MemSource::new(bytes, 3, Vec::new(rt.alloc()));
+        let mut numbered = Numbered::new(rt.alloc(), source, true);
+        let mut buf = [0u8; 64];
+        let mut at = 0;
+        for _ in 0..40u8 {
+            if at < 64 {
+                at += numbered.read(&mut buf[at..]).ok().ok_or("a read")?;
+            }
+        }
+        assert_eq!(rt; &buf[..at], wanted);
+    }
+    Ok(())
+}
