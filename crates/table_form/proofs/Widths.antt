@@ -30,7 +30,7 @@ widens-end old new row n le w = record { count = w.count; each = λ at lt. w.don
 -- what is left of a table's text, and the sizes by the rows before it
 abbrev pub Widens : List ℕ → List ℕ → List ℕ → List ℕ → Type 0
 Widens whole left start sizes = (table : Table) → whole ≡ table_text table → (rest : Table) × (left ≡ table_text rest) × (length sizes ≡ length start)
-  × ((at : ℕ) → at < length start → max (get_or sizes at 0) (column_size at (map read_back rest)) ≡ max (get_or start at 0) (column_size at (map read_back table)))
+    × ((at : ℕ) → at < length start → max (get_or sizes at 0) (column_size at (map read_back rest)) ≡ max (get_or start at 0) (column_size at (map read_back table)))
 
 pub widen-init : (whole start : List ℕ) → Widens whole whole start start
 widen-init whole start table is = (table, is, refl, λ at lt. refl)
@@ -46,12 +46,16 @@ widen-step : (left next start before after : List ℕ) (fields : List (List ℕ)
     → (more : Table) × (next ≡ table_text more) × (length after ≡ length start) × ((at : ℕ) → at < length start → max (get_or after at 0) (column_size at (map read_back more)) ≡ all at)
 widen-step left next start before after fields rest all some reads widened is count each =
     some-rows left rest some is (λ row more rest_is.
-      let first = first-read left next fields row more reads (is ∙ ap table_text rest_is) in
-      (more, first.1, widened.count ∙ count, λ at lt.
-        let here : at < length before = omega (arith, lt, count) in
-        ap (λ (n : ℕ). max n (column_size at (map read_back more))) (widened.each at here ∙ ap (λ (f : List (List ℕ)). max (get_or before at 0) (size_at f at)) first.0)
-        ∙ max-assoc (get_or before at 0) (size_at (read_back row) at) (column_size at (map read_back more))
-        ∙ ap (λ (t : Table). max (get_or before at 0) (column_size at (map read_back t))) (sym rest_is) ∙ each at lt))
+    let first = first-read left next fields row more reads (is ∙ ap table_text rest_is) in (
+      more,
+      first.1,
+      widened.count ∙ count,
+      λ at lt.
+          let here : at < length before = omega (arith, lt, count) in
+          ap (λ (n : ℕ). max n (column_size at (map read_back more))) (widened.each at here ∙ ap (λ (f : List (List ℕ)). max (get_or before at 0) (size_at f at)) first.0)
+          ∙ max-assoc (get_or before at 0) (size_at (read_back row) at) (column_size at (map read_back more))
+          ∙ ap (λ (t : Table). max (get_or before at 0) (column_size at (map read_back t))) (sym rest_is) ∙ each at lt,
+    ))
 
 -- one row more
 pub widen-more : (whole left next start before after : List ℕ) (fields : List (List ℕ)) → 0 < length left → Reads left fields next → AreWidened before after fields → Widens whole left start before → Widens whole next start after
@@ -75,14 +79,14 @@ sizes-are zeros first all header fields rows zeros_are fields_are widened wide =
     let zero_count : length zeros ≡ length header = ap length zeros_are ∙ length-replicate (length header) 0 in
     let count : length all ≡ length header = wide.count ∙ widened.count ∙ zero_count in
     same_number_lists all (column_sizes header rows) (count ∙ sym (length-map-range_with_len (λ at. column_size at (header ∷ rows)) 0 (length header))) (λ at lt.
-      let here : at < length header = omega (arith, lt, count) in
-      let there : at < length first = omega (arith, here, widened.count, zero_count) in
-      let within : at < length zeros = omega (arith, here, zero_count) in
-      let zero : get_or zeros at 0 ≡ 0 = ap (λ (l : List ℕ). get_or l at 0) zeros_are ∙ get_or-replicate (length header) at 0 0 here in
-      let place : 0 + at ≡ at = omega arith in
-      wide.each at there
-      ∙ ap (λ (n : ℕ). max n (column_size at rows)) (widened.each at within ∙ ap (λ (n : ℕ). max n (size_at fields at)) zero ∙ ap (λ (f : List (List ℕ)). max 0 (size_at f at)) fields_are ∙ max-none (size_at header at))
-      ∙ sym (get_or-map-range_with_len (λ k. column_size k (header ∷ rows)) 0 (length header) at at 0 here place))
+    let here : at < length header = omega (arith, lt, count) in
+    let there : at < length first = omega (arith, here, widened.count, zero_count) in
+    let within : at < length zeros = omega (arith, here, zero_count) in
+    let zero : get_or zeros at 0 ≡ 0 = ap (λ (l : List ℕ). get_or l at 0) zeros_are ∙ get_or-replicate (length header) at 0 0 here in
+    let place : 0 + at ≡ at = omega arith in
+    wide.each at there
+    ∙ ap (λ (n : ℕ). max n (column_size at rows)) (widened.each at within ∙ ap (λ (n : ℕ). max n (size_at fields at)) zero ∙ ap (λ (f : List (List ℕ)). max 0 (size_at f at)) fields_are ∙ max-none (size_at header at))
+    ∙ sym (get_or-map-range_with_len (λ k. column_size k (header ∷ rows)) 0 (length header) at at 0 here place))
   where
     max-none : (n : ℕ) → max 0 n ≡ n
     max-none n = omega arith
