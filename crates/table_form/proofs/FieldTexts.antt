@@ -75,3 +75,7 @@ once-second b rest is = rw is refl
 pub once-other : (after : Bool) (b : ℕ) (rest : List ℕ) → ((b == 34) && after) ≡ false → once after (b ∷ rest) ≡ b ∷ once (b == 34) rest
 unfolding once
 once-other after b rest is = rw is refl
+
+pub once-none : (after : Bool) → once after [] ≡ []
+unfolding once
+once-none after = refl

@@ -59,3 +59,16 @@ place-more f sep n start before mid after mid_is after_is before_is =
 -- two pieces after a text
 pub two-after : (before one two mid after : List ℕ) → mid ≡ before ++ one → after ≡ mid ++ two → after ≡ before ++ (one ++ two)
 two-after before one two mid after mid_is after_is = after_is ∙ ap (λ (t : List ℕ). t ++ two) mid_is ∙ append_assoc before one two
+
+-- no separator comes before the first piece
+pub lead-none : (at : ℕ) (sep : List ℕ) → at ≡ 0 → lead at sep ≡ []
+lead-none at sep is = ap (λ (n : ℕ). lead n sep) is
+
+-- and one before each other
+pub lead-some : (at : ℕ) (sep : List ℕ) → (at ≡ 0 → ⊥) → lead at sep ≡ sep
+lead-some at sep other = ap (λ (b : Bool). if b then [] else sep) (ne_eqb at 0 other)
+
+-- three pieces after nothing
+pub three-pieces : (empty first second third a b c : List ℕ) → empty ≡ [] → first ≡ empty ++ a → second ≡ first ++ b → third ≡ second ++ c → third ≡ a ++ (b ++ c)
+three-pieces empty first second third a b c none one two three =
+    three ∙ ap (λ (t : List ℕ). t ++ c) (two ∙ ap (λ (t : List ℕ). t ++ b) (one ∙ ap (λ (t : List ℕ). t ++ a) none)) ∙ append_assoc a b c

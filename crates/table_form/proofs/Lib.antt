@@ -3,4 +3,7 @@ pub mod Joins
 pub mod Walks
 pub mod FieldTexts
 pub mod Rows
+pub mod Records
+pub mod Plain
+pub mod Points
 pub mod Widths

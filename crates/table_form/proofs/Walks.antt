@@ -31,7 +31,7 @@ text-none : length (table_text []) ≡ 0
 unfolding table_text
 text-none = refl
 
-text-first : (row : List (List ℕ)) (rest : Table) → table_text (row ∷ rest) ≡ row_text default_writer row ++ table_text rest
+pub text-first : (row : List (List ℕ)) (rest : Table) → table_text (row ∷ rest) ≡ row_text default_writer row ++ table_text rest
 unfolding table_text
 text-first row rest = refl
 
@@ -69,3 +69,7 @@ walk-end r whole left start out none walk table is =
     let so_far = walk table is in
     let no_more = no-rows left so_far.0 none so_far.1 in
     sym (append-nil out) ∙ ap (λ (rest : Table). out ++ forms r rest) (sym no_more) ∙ so_far.2
+
+-- nothing was put yet
+pub walk-from : (r : List (List ℕ) → List ℕ) (whole start out : List ℕ) → out ≡ start → Walks r whole whole start out
+walk-from r whole start out is table table_is = (table, table_is, ap (λ (t : List ℕ). t ++ forms r table) is)

@@ -1,5 +1,6 @@
 -- Sizes of columns that grow row by row.
-use Rattle.std.proofs.Common.{◌≡◌, ◌<◌, ◌≤◌, ◌+◌, ◌∙◌, ◌∷◌, [], ℕ, List, ap, arith, get_or, length, map, max, refl, sym}
+use Rattle.std.proofs.Common.{◌≡◌, ◌≢◌, ◌<◌, ◌≤◌, ◌+◌, ◌-◌, ◌∙◌, ◌∷◌, ◌++◌, [], ℕ, zero, suc, List, ap, arith, below_more, get_or, get_or-set_other, get_or-set_same, length, map, max, refl, sym, take}
+use Rattle.std.proofs.Math.ListN.{length-set, set}
 use Rattle.std.proofs.lemmas.List.{get_or-replicate, length-replicate}
 use Rattle.std.proofs.lemmas.List.FromFn.{get_or-map-range_with_len, length-map-range_with_len}
 use Rattle.std.proofs.lemmas.Grind.{same_number_lists}
@@ -90,3 +91,25 @@ sizes-are zeros first all header fields rows zeros_are fields_are widened wide =
   where
     max-none : (n : ℕ) → max 0 n ≡ n
     max-none n = omega arith
+
+-- zeros in place of nothing
+pub zeros-are : (n size : ℕ) (none : List ℕ) → none ≡ [] → size ≡ 0 → take n none ++ replicate (n - size) 0 ≡ replicate n 0
+zeros-are n size none is size_is =
+    ap (λ (l : List ℕ). take n l ++ replicate (n - size) 0) is ∙ ap (λ (l : List ℕ). l ++ replicate (n - size) 0) (take-none n) ∙ ap (λ (k : ℕ). replicate k 0) (omega (arith, size_is))
+  where
+    take-none : (n : ℕ) → take n [] ≡ []
+    take-none zero = refl
+    take-none (suc n) = refl
+
+-- one column more
+pub widens-next : (old new next : List ℕ) (row : List (List ℕ)) (n size : ℕ) → size ≡ size_at row n → n < length old → next ≡ set new n (max (get_or new n 0) size) → WidensTo old new row n → WidensTo old next row (n + 1)
+widens-next old new next row n size size_is lt is w =
+    let here : n < length new = omega (arith, lt, w.count) in
+    let value = max (get_or new n 0) size in
+    record {
+      count = ap length is ∙ length-set new n value ∙ w.count;
+      done = below_more (λ at. get_or next at 0 ≡ max (get_or old at 0) (size_at row at)) n
+          (λ at below. let other : at ≢ n = omega (arith, below) in ap (λ (l : List ℕ). get_or l at 0) is ∙ get_or-set_other new n at value 0 other ∙ w.done at below)
+          (ap (λ (l : List ℕ). get_or l n 0) is ∙ get_or-set_same new n value 0 here ∙ ap (λ (k : ℕ). max k size) (w.later n (omega arith)) ∙ ap (max (get_or old n 0)) size_is);
+      later = λ at le. let other : at ≢ n = omega (arith, le) in ap (λ (l : List ℕ). get_or l at 0) is ∙ get_or-set_other new n at value 0 other ∙ w.later at (omega (arith, le));
+    }

@@ -26,9 +26,10 @@ pub(crate) fn as_aligned(alloc: Global, text: &[u8], keys: usize) -> Result<Vec<
     let rows = read_row(&mut row, &mut buffer, text)?;
     let mut out = Vec::new(alloc);
     let mut cell = String::new(alloc);
-    put_row(&mut out, &mut cell, sizes.as_slice(), keys, &row)?;
-    put_dashes(&mut out, sizes.as_slice())?;
-    put_rows(&mut out, alloc, sizes.as_slice(), keys, rows)?;
+    let widths = sizes.as_slice();
+    put_row(&mut out, &mut cell, widths, keys, &row)?;
+    put_dashes(&mut out, widths)?;
+    put_rows(&mut out, alloc, widths, keys, rows)?;
     Ok(out)
 }
 
@@ -79,12 +80,28 @@ fn put_aligned(out: &mut Vec<u8>, text: &[u8], is_key: bool, size: usize) -> Res
 {
     let spaces = size.saturating_sub(characters(text));
     if is_key {
-        out.extend_from_slice(text)?;
-        put_times(out, spaces, b' ')
+        put_left(out, text, spaces)
     } else {
-        put_times(out, spaces, b' ')?;
-        out.extend_from_slice(text)
+        put_right(out, text, spaces)
     }
+}
+
+/// Puts a text and then spaces.
+fn put_left(out: &mut Vec<u8>, text: &[u8], spaces: usize) -> Result<(), AllocError>
+    ensures { OnOk result (out.new.items ≡ out.old.items ++ (text.now ++ replicate spaces 32)) }
+{
+    out.extend_from_slice(text)?;
+    put_times(out, spaces, b' ')?;
+    Ok(())
+}
+
+/// Puts spaces and then a text.
+fn put_right(out: &mut Vec<u8>, text: &[u8], spaces: usize) -> Result<(), AllocError>
+    ensures { OnOk result (out.new.items ≡ out.old.items ++ (replicate spaces 32 ++ text.now)) }
+{
+    put_times(out, spaces, b' ')?;
+    out.extend_from_slice(text)?;
+    Ok(())
 }
 
 /// Puts a line of dashes under each column.

@@ -12,5 +12,6 @@ pub(crate) fn put_lead(out: &mut Vec<u8>, at: usize, separator: &[u8]) -> Result
     if at == 0 {
         return Ok(());
     }
-    out.extend_from_slice(separator)
+    out.extend_from_slice(separator)?;
+    Ok(())
 }

@@ -7,7 +7,7 @@ ghost use Rattle.std.specs.Str.Lossy.{utf8_lossy};
 ghost use Rattle.csv.specs.Records.{fields_of};
 ghost use Rattle.csv.specs.Writing.{read_back};
 ghost use Rattle.par_model.specs.Table.{table_text};
-ghost use Rattle.table_form.specs.Json.{is_json_special, json_byte, json_code, json_control, json_field, json_name, json_row, json_string, json_text};
+ghost use Rattle.table_form.specs.Json.{is_json_special, json_byte, json_code, json_control, json_field, json_member, json_name, json_row, json_string, json_text};
 
 use crate::between::put_lead;
 use crate::number::is_number;
@@ -78,10 +78,28 @@ fn put_row(
     out.push(b'{')?;
     'fields: for at in 0..names.len() {
         put_lead(out, at, b",")?;
-        out.extend_from_slice(field_at(names, at))?;
-        put_field(out, alloc, at < keys, field_at(row, at))?;
+        put_member(out, alloc, names, keys, row, at)?;
     }
-    out.extend_from_slice(b"}\n")
+    out.extend_from_slice(b"}\n")?;
+    Ok(())
+}
+
+/// Puts the member of the column at a place.
+fn put_member(
+    out: &mut Vec<u8>,
+    alloc: Global,
+    names: &ByteRecord,
+    keys: usize,
+    row: &ByteRecord,
+    at: usize,
+) -> Result<(), AllocError>
+    ensures { OnOk result (out.new.items ≡ out.old.items ++ json_member keys (fields_of names.now) (fields_of row.now) at) }
+{
+    let name = field_at(names, at);
+    let field = field_at(row, at);
+    out.extend_from_slice(name)?;
+    put_field(out, alloc, at < keys, field)?;
+    Ok(())
 }
 
 /// Puts a field: that of a key as a string, and any other as a number or a null if it is one.
@@ -115,21 +133,38 @@ fn put_text(out: &mut Vec<u8>, alloc: Global, text: &[u8]) -> Result<(), AllocEr
     ensures { OnOk result (out.new.items ≡ out.old.items ++ flat_map json_byte (utf8_lossy text.now)) }
 {
     match str::from_utf8(text) {
-        Ok(_) => put_bytes(out, text),
-        Err(_) => {
-            let text = String::from_utf8_lossy(alloc, text)?;
-            put_bytes(out, text.as_bytes())
+        Ok(_) => {
+            put_bytes(out, text)?;
+            Ok(())
         }
+        Err(_) => put_lossy(out, alloc, text),
     }
+}
+
+/// Puts what is between the quotes of a string with U+FFFD for what is not UTF-8.
+fn put_lossy(out: &mut Vec<u8>, alloc: Global, bytes: &[u8]) -> Result<(), AllocError>
+    ensures { OnOk result (out.new.items ≡ out.old.items ++ flat_map json_byte (utf8_lossy bytes.now)) }
+{
+    let text = String::from_utf8_lossy(alloc, bytes)?;
+    put_bytes(out, text.as_bytes())?;
+    Ok(())
 }
 
 /// Puts bytes of a string.
 fn put_bytes(out: &mut Vec<u8>, bytes: &[u8]) -> Result<(), AllocError>
     ensures { OnOk result (out.new.items ≡ out.old.items ++ flat_map json_byte bytes.now) }
 {
-    if !has_special(bytes) {
-        return out.extend_from_slice(bytes);
+    if has_special(bytes) {
+        return put_escaped(out, bytes);
     }
+    out.extend_from_slice(bytes)?;
+    Ok(())
+}
+
+/// Puts bytes of a string one by one.
+fn put_escaped(out: &mut Vec<u8>, bytes: &[u8]) -> Result<(), AllocError>
+    ensures { OnOk result (out.new.items ≡ out.old.items ++ flat_map json_byte bytes.now) }
+{
     for byte in bytes {
         put_byte(out, *byte)?;
     }

@@ -92,7 +92,8 @@ fn put_once(buffer: &mut Vec<u8>, inner: &[u8]) -> Result<(), AllocError>
     buffer.clear();
     let mut after_quote = false;
     for byte in inner {
-        after_quote = put_byte(buffer, after_quote, *byte)?;
+        let next = put_byte(buffer, after_quote, *byte)?;
+        after_quote = next;
     }
     Ok(())
 }

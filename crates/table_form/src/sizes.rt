@@ -1,6 +1,6 @@
 //! How many characters the widest field of each column has.
 
-ghost use Rattle.std.specs.Prelude.{◌≡◌, ◌∷◌, ℕ, List, IfOk, OnOk, map, string_bytes};
+ghost use Rattle.std.specs.Prelude.{◌≡◌, ◌<◌, ◌∷◌, ℕ, List, IfOk, OnOk, length, map, max, replicate, slice_index, slice_set, string_bytes};
 ghost use Rattle.csv.specs.Records.{fields_of};
 ghost use Rattle.csv.specs.Writing.{read_back};
 ghost use Rattle.par_model.specs.Table.{table_text};
@@ -19,11 +19,19 @@ pub(crate) fn column_sizes(alloc: Global, text: &[u8]) -> Result<Vec<usize>, All
     let mut row = ByteRecord::new(alloc);
     let mut buffer = Vec::new(alloc);
     let rows = read_row(&mut row, &mut buffer, text)?;
-    let mut sizes = Vec::new(alloc);
-    sizes.resize(row.len(), 0)?;
+    let mut sizes = zeros(alloc, row.len())?;
     let mut cell = String::new(alloc);
     widen(&mut sizes, &row, &mut cell)?;
     widen_all(&mut sizes, alloc, rows)?;
+    Ok(sizes)
+}
+
+/// So many zeros.
+fn zeros(alloc: Global, count: usize) -> Result<Vec<usize>, AllocError>
+    ensures { IfOk result (λ sizes. sizes.items ≡ replicate count 0) }
+{
+    let mut sizes = Vec::new(alloc);
+    sizes.resize(count, 0)?;
     Ok(sizes)
 }
 
@@ -50,11 +58,17 @@ fn widen(sizes: &mut Vec<usize>, row: &ByteRecord, cell: &mut String) -> Result<
     'columns: for at in 0..sizes.len() {
         put_cell(cell, field_at(row, at))?;
         let size = characters(cell.as_bytes());
-        if size > sizes[at] {
-            sizes[at] = size;
-        }
+        raise(sizes, at, size);
     }
     Ok(())
+}
+
+/// Makes the size at a place at least this one.
+fn raise(sizes: &mut Vec<usize>, at: usize, size: usize)
+    requires { at < length sizes.old.items }
+    ensures { sizes.new.items ≡ slice_set sizes.old.items at (max (slice_index sizes.old.items at) size) }
+{
+    sizes[at] = sizes[at].max(size);
 }
 
 /// Makes a cell what is shown of a field.
@@ -62,7 +76,8 @@ pub(crate) fn put_cell(cell: &mut String, field: &[u8]) -> Result<(), AllocError
     ensures { OnOk result (string_bytes cell.new ≡ shown field.now) }
 {
     cell.clear();
-    put_escaped(cell, field)
+    put_escaped(cell, field)?;
+    Ok(())
 }
 
 /// How many characters a text of UTF-8 has.

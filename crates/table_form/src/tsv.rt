@@ -1,11 +1,11 @@
 //! A table with its fields divided by tabs, as PostgreSQL's COPY writes it, but for nulls, which are empty.
 
 ghost use Rattle.std.specs.Prelude.{◌≡◌, ◌++◌, ℕ, List, IfOk, OnOk, map};
-ghost use Rattle.std.specs.List.{flat_map, list_any};
+ghost use Rattle.std.specs.List.{list_any};
 ghost use Rattle.csv.specs.Records.{fields_of};
 ghost use Rattle.csv.specs.Writing.{read_back};
 ghost use Rattle.par_model.specs.Table.{table_text};
-ghost use Rattle.table_form.specs.Tsv.{is_tsv_special, tsv_byte, tsv_row, tsv_text};
+ghost use Rattle.table_form.specs.Tsv.{is_tsv_special, tsv_byte, tsv_field, tsv_row, tsv_text};
 
 use crate::between::put_lead;
 use crate::row::{field_at, read_row};
@@ -42,11 +42,19 @@ fn put_row(out: &mut Vec<u8>, row: &ByteRecord) -> Result<(), AllocError>
 
 /// Puts a field.
 fn put_field(out: &mut Vec<u8>, field: &[u8]) -> Result<(), AllocError>
-    ensures { OnOk result (out.new.items ≡ out.old.items ++ flat_map tsv_byte field.now) }
+    ensures { OnOk result (out.new.items ≡ out.old.items ++ tsv_field field.now) }
 {
-    if !has_special(field) {
-        return out.extend_from_slice(field);
+    if has_special(field) {
+        return put_escaped(out, field);
     }
+    out.extend_from_slice(field)?;
+    Ok(())
+}
+
+/// Puts a field byte by byte.
+fn put_escaped(out: &mut Vec<u8>, field: &[u8]) -> Result<(), AllocError>
+    ensures { OnOk result (out.new.items ≡ out.old.items ++ tsv_field field.now) }
+{
     for byte in field {
         put_byte(out, *byte)?;
     }

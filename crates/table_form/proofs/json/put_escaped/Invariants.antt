@@ -1,7 +1,7 @@
 use Rattle.std.proofs.Common.{◌≡◌, ◌++◌, take}
 use Rattle.std.specs.List.{flat_map}
 use Rattle.table_form.specs.Json.{json_byte}
-use Rattle.table_form.proofs.json.put_bytes.Given as goal
+use Rattle.table_form.proofs.json.put_escaped.Given as goal
 
 -- the bytes so far
 abbrev pub invariant-loop-byte : goal.invariant-loop-byte

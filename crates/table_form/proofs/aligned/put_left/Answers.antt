@@ -1,0 +1,7 @@
+use Rattle.std.specs.Prelude.{replicate}
+use Rattle.table_form.proofs.Joins.{two-after}
+use Rattle.table_form.proofs.aligned.put_left.Goals as goal
+
+pub returns : goal.returns
+returns c =
+    two-after c.args.out.now.items c.args.text.now (replicate c.args.spaces 32) c.extend_from_slice.new.self.items c.put_times.new.out.items c.in_ok-extend_from_slice.ensures.items c.in_ok-put_times.ensures
