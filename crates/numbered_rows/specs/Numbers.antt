@@ -9,6 +9,10 @@ use Rattle.numbered_rows.specs.declared.front.TheConstants.{FRONT}
 abbrev pub width_of : List ℕ → ℕ
 width_of bytes = length (record_at (records_of bytes) 0)
 
+-- what comes before the piece at a place: a separator, unless it is the first
+abbrev pub lead : ℕ → List ℕ → List ℕ
+lead at separator = if at == 0 then [] else separator
+
 -- the numbers of so many columns: from 1 on, with commas between them
 abbrev pub numbers_text : ℕ → List ℕ
 numbers_text width = join_by (λ at. decimal (at + 1)) (44 ∷ []) (range_with_len 0 width)
@@ -23,5 +27,5 @@ headed width bytes = header_text width ++ strip_bom bytes
 
 -- a table with a header of as many columns as its first record has fields, if it ends in the first FRONT bytes, and otherwise of
 -- as many as it has fields there
-abbrev pub numbered : List ℕ → List ℕ
+unfoldable pub numbered : List ℕ → List ℕ
 numbered bytes = headed (width_of (take FRONT bytes)) bytes

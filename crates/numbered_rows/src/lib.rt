@@ -5,6 +5,8 @@
 
 #![tactic(auto)]
 
+mod ahead;
+mod bytes;
 mod front;
 mod header;
 mod numbered;

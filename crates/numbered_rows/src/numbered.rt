@@ -1,11 +1,15 @@
 //! A source with a header.
 
-ghost use Rattle.std.specs.Prelude.{◌≡◌, ◌≤◌, OnErr, OnOk, true};
-ghost use Rattle.par_io.specs.Faults.{HasCause};
+ghost use Rattle.std.specs.Prelude.{◌≡◌, IsErr, OnOk, false, true};
+ghost use Rattle.std.specs.Io.KnownBytes.{Keeps};
+ghost use Rattle.par_io.specs.Faults.{HasCause, one_more};
+ghost use Rattle.numbered_rows.specs.Front.{IsFront};
 
+use crate::ahead::read_ahead;
+use crate::bytes::Bytes;
 use crate::front::{NoFront, read_front};
 use crate::header::headed;
-use par_io::{Failed, MemSource, Source};
+use par_io::{Failed, Source};
 use std::alloc::Global;
 
 /// A source of a table without a header, which gives it one if that is asked for: the numbers of its columns. It reads ahead up to
@@ -19,7 +23,7 @@ pub struct Numbered<S> {
     /// Whether the header is made, or none is asked for.
     is_open: bool,
     /// The header, and the bytes that were read ahead.
-    ahead: MemSource,
+    ahead: Bytes,
     /// How often memory ran out.
     lacks: u64,
 }
@@ -37,22 +41,38 @@ impl<S: Source> Numbered<S> {
             alloc,
             front: Vec::new(alloc),
             is_open: !on,
-            ahead: MemSource::new(Vec::new(alloc), usize::MAX, Vec::new(alloc)),
+            ahead: Bytes::new(Vec::new(alloc)),
             lacks: 0,
         }
     }
 
-    /// Reads the front, and makes the header.
-    fn open(&mut self) -> Result<(), Failed> {
-        match read_front(&mut self.front, &mut self.source) {
-            Ok(()) => {}
-            Err(NoFront::Failed) => return Err(Failed),
-            Err(NoFront::Memory) => return self.lack(),
+    /// Reads the front, and makes the header, unless that is done.
+    fn open(&mut self) -> Result<(), Failed>
+        ensures keeps { Keeps (numbered_left S.left self.old) (numbered_left S.left self.new) }
+        ensures open { OnOk result (self.new.is_open ≡ true) }
+        ensures cause { HasCause (numbered_faults S.faults self.old) (numbered_faults S.faults self.new) result }
+    {
+        if self.is_open {
+            return Ok(());
         }
+        match read_front(&mut self.front, &mut self.source) {
+            Ok(()) => self.make(),
+            Err(NoFront::Failed) => Err(Failed),
+            Err(NoFront::Memory) => self.lack(),
+        }
+    }
+
+    /// Makes the header of a front that was read.
+    fn make(&mut self) -> Result<(), Failed>
+        requires closed { self.old.is_open ≡ false }
+        requires front { IsFront self.old.front.items (S.left self.old.source) }
+        ensures keeps { Keeps (numbered_left S.left self.old) (numbered_left S.left self.new) }
+        ensures open { OnOk result (self.new.is_open ≡ true) }
+        ensures cause { HasCause (numbered_faults S.faults self.old) (numbered_faults S.faults self.new) result }
+    {
         match headed(self.alloc, self.front.as_slice()) {
             Ok(text) => {
-                self.ahead = MemSource::new(text, usize::MAX, Vec::new(self.alloc));
-                self.front = Vec::new(self.alloc);
+                self.ahead = Bytes::new(text);
                 self.is_open = true;
                 Ok(())
             }
@@ -61,7 +81,10 @@ impl<S: Source> Numbered<S> {
     }
 
     /// Memory has run out.
-    fn lack(&mut self) -> Result<(), Failed> {
+    fn lack(&mut self) -> Result<(), Failed>
+        ensures same { self.new ≡ record self.old { lacks = one_more self.old.lacks } }
+        ensures fails { IsErr result }
+    {
         self.lacks = self.lacks.saturating_add(1);
         Err(Failed)
     }
@@ -76,13 +99,7 @@ impl<S: Source> Source for Numbered<S> {
 
     /// The header and what was read ahead, and then one read of the source under it. It fails too if memory runs out.
     fn read(&mut self, buf: &mut [u8]) -> Result<usize, Failed> {
-        if !self.is_open {
-            self.open()?;
-        }
-        let count = self.ahead.read(buf)?;
-        if count > 0 {
-            return Ok(count);
-        }
-        self.source.read(buf)
+        self.open()?;
+        read_ahead(&mut self.ahead, &mut self.source, buf)
     }
 }
