@@ -68,9 +68,19 @@ unfolding once escaped
 once-escaped [] = refl
 once-escaped (b ∷ rest) = once-by b rest (b == 34) refl (once-escaped rest)
 
-pub once-second : (b : ℕ) (rest : List ℕ) → b ≡ 34 → once true (b ∷ rest) ≡ once false rest
+once-twice : (rest : List ℕ) → once true (34 ∷ rest) ≡ once false rest
 unfolding once
-once-second b rest is = rw is refl
+once-twice rest = refl
+
+pub once-second : (after : Bool) (b : ℕ) (rest : List ℕ) → after ≡ true → b ≡ 34 → once after (b ∷ rest) ≡ once false rest
+once-second after b rest second is = ap (λ (a : Bool). once a (b ∷ rest)) second ∙ ap (λ (c : ℕ). once true (c ∷ rest)) is ∙ once-twice rest
+
+pub and-first : (p q : Bool) → p ≡ false → (p && q) ≡ false
+and-first p q is = ap (λ (b : Bool). b && q) is
+
+pub and-second : (p q : Bool) → q ≡ false → (p && q) ≡ false
+and-second true q is = is
+and-second false q is = refl
 
 pub once-other : (after : Bool) (b : ℕ) (rest : List ℕ) → ((b == 34) && after) ≡ false → once after (b ∷ rest) ≡ b ∷ once (b == 34) rest
 unfolding once

@@ -7,3 +7,4 @@ pub mod Records
 pub mod Plain
 pub mod Points
 pub mod Widths
+pub mod Values

@@ -1,7 +1,6 @@
 -- A number with a point, and one without.
-use Rattle.std.proofs.Common.{◌≡◌, ◌<◌, ◌≤◌, ◌+◌, ◌∙◌, Bool, ℕ, List, true, false, ap, arith, drop, length, sym, take}
+use Rattle.std.proofs.Common.{◌≡◌, ◌<◌, ◌≤◌, ◌+◌, ◌∙◌, ◌∷◌, [], Bool, ℕ, zero, suc, List, true, false, ap, arith, drop, length, refl, sym, take}
 use Rattle.std.proofs.lemmas.Bool.Decides.{nat_tests}
-use Rattle.std.proofs.lemmas.List.{take_all}
 use Rattle.std.specs.List.{after_first, before_first, list_any, position_or_len}
 use Rattle.std.specs.Prelude.{◌&&◌, if◌then◌else◌, nat_lt}
 use Rattle.par_model.specs.Number.{is_point}
@@ -17,3 +16,9 @@ without-point size at is end = by-point false size (any-point size ∙ grind (ar
 
 pub with-point : (size : List ℕ) (at : ℕ) → at ≡ position_or_len is_point size → at < length size → is_unsigned size ≡ (is_whole (take at size) && are_digits (drop (at + 1) size))
 with-point size at is lt = by-point true size (any-point size ∙ grind (arith, nat_tests, is, lt)) ∙ ap (λ (n : ℕ). is_whole (take n size) && are_digits (drop (n + 1) size)) (sym is)
+
+-- the bytes after the first of those from a place on
+pub drop-next : (n : ℕ) (xs : List ℕ) → drop 1 (drop n xs) ≡ drop (n + 1) xs
+drop-next zero xs = refl
+drop-next (suc n) [] = let count : suc n + 1 ≡ suc (n + 1) = omega arith in let none : List ℕ = [] in sym (ap (λ (m : ℕ). drop m none) count)
+drop-next (suc n) (x ∷ xs) = let count : suc n + 1 ≡ suc (n + 1) = omega arith in drop-next n xs ∙ sym (ap (λ (m : ℕ). drop m (x ∷ xs)) count)

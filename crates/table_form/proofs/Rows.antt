@@ -103,9 +103,9 @@ no-comma (field ∷ others) rest more next is other next_is = let no : true ≡ 
 
 -- what one turn of the reading finds: the first field is put, and the text after it is looked at
 pub record Turns (left text more next : List ℕ) (before after : List (List ℕ)) : Type 0 where
-  pub text : text ≡ take (size_to true false left) left
-  pub more : more ≡ drop (size_to true false left) left
-  pub next : next ≡ drop 1 more
+  pub text_is : text ≡ take (size_to true false left) left
+  pub more_is : more ≡ drop (size_to true false left) left
+  pub next_is : next ≡ drop 1 more
   pub put : (field : List ℕ) → IsFieldText field text → after ≡ before ++ field ∷ []
 
 read-on : (before after : List (List ℕ)) (field : List ℕ) (others fields all : List (List ℕ)) → after ≡ before ++ field ∷ [] → fields ≡ field ∷ others → before ++ fields ≡ all → after ++ others ≡ all
@@ -115,26 +115,26 @@ put-text : (left text more next : List ℕ) (before after fields : List (List �
 put-text left text more next before after fields rest turn b = turn.put b.field (field-is b.is)
   where
     field-is : IsFieldText b.field b.text → IsFieldText b.field text
-    field-is (inl is) = inl (text-front left text fields rest turn.text b ∙ is)
-    field-is (inr both) = inr (both.0, text-front left text fields rest turn.text b ∙ both.1)
+    field-is (inl is) = inl (text-front left text fields rest turn.text_is b ∙ is)
+    field-is (inr both) = inr (both.0, text-front left text fields rest turn.text_is b ∙ both.1)
 
 pub reads-more : (whole left text more next : List ℕ) (before after : List (List ℕ)) → Turns left text more next before after → (slice_index more 0 == 44) ≡ true → ReadsRow whole before left → ReadsRow whole after next
 reads-more whole left text more next before after turn comma reads row rest is =
     let so_far = reads row rest is in
     let b = so_far.1 in
-    let others_left = text-after left more so_far.0 rest turn.more b in
-    (b.others, comma-next b.others rest more next others_left comma turn.next, read-on before after b.field b.others so_far.0 (read_back row) (put-text left text more next before after so_far.0 rest turn b) b.are so_far.2)
+    let others_left = text-after left more so_far.0 rest turn.more_is b in
+    (b.others, comma-next b.others rest more next others_left comma turn.next_is, read-on before after b.field b.others so_far.0 (read_back row) (put-text left text more next before after so_far.0 rest turn b) b.are so_far.2)
 
 pub reads-end : (whole left text more next : List ℕ) (before after : List (List ℕ)) → Turns left text more next before after → (slice_index more 0 == 44) ≡ false → ReadsRow whole before left
     → (row : List (List ℕ)) (rest : List ℕ) → whole ≡ row_text default_writer row ++ rest → (after ≡ read_back row) × (next ≡ rest)
 reads-end whole left text more next before after turn other reads row rest is =
     let so_far = reads row rest is in
     let b = so_far.1 in
-    let none = no-comma b.others rest more next (text-after left more so_far.0 rest turn.more b) other turn.next in
+    let none = no-comma b.others rest more next (text-after left more so_far.0 rest turn.more_is b) other turn.next_is in
     (put-text left text more next before after so_far.0 rest turn b ∙ ap (λ (r : List (List ℕ)). before ++ b.field ∷ r) (sym none.0) ∙ ap (λ (r : List (List ℕ)). before ++ r) (sym b.are) ∙ so_far.2, none.1)
 
-some-text : (text tail : List ℕ) (others : List (List ℕ)) (rest : List ℕ) → 0 < length (text ++ after_text others rest)
-some-text text tail others rest = omega (arith, length-append text (after_text others rest), length-append (fields_text default_writer others) (10 ∷ rest))
+some-text : (text : List ℕ) (others : List (List ℕ)) (rest : List ℕ) → 0 < length (text ++ after_text others rest)
+some-text text others rest = omega (arith, length-append text (after_text others rest), length-append (fields_text default_writer others) (10 ∷ rest))
 
 -- a row has not ended before its text has
 pub reads-some : (whole left : List ℕ) (read : List (List ℕ)) → length left ≡ 0 → ReadsRow whole read left → (row : List (List ℕ)) (rest : List ℕ) → whole ≡ row_text default_writer row ++ rest → ⊥
@@ -142,4 +142,4 @@ reads-some whole left read none reads row rest is =
     let so_far = reads row rest is in
     let b = so_far.1 in
     let size = ap length b.whole in
-    omega (arith, none, size, some-text b.text [] b.others rest)
+    omega (arith, none, size, some-text b.text b.others rest)

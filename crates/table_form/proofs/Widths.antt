@@ -92,14 +92,16 @@ sizes-are zeros first all header fields rows zeros_are fields_are widened wide =
     max-none : (n : ℕ) → max 0 n ≡ n
     max-none n = omega arith
 
+take-none : (n : ℕ) (xs : List ℕ) → xs ≡ [] → take n xs ≡ []
+take-none zero xs is = refl
+take-none (suc n) [] is = refl
+take-none (suc n) (x ∷ xs) is = cc
+
 -- zeros in place of nothing
 pub zeros-are : (n size : ℕ) (none : List ℕ) → none ≡ [] → size ≡ 0 → take n none ++ replicate (n - size) 0 ≡ replicate n 0
 zeros-are n size none is size_is =
-    ap (λ (l : List ℕ). take n l ++ replicate (n - size) 0) is ∙ ap (λ (l : List ℕ). l ++ replicate (n - size) 0) (take-none n) ∙ ap (λ (k : ℕ). replicate k 0) (omega (arith, size_is))
-  where
-    take-none : (n : ℕ) → take n [] ≡ []
-    take-none zero = refl
-    take-none (suc n) = refl
+    let count : n - size ≡ n = omega (arith, size_is) in
+    ap (λ (l : List ℕ). l ++ replicate (n - size) 0) (take-none n none is) ∙ ap (λ (k : ℕ). replicate k 0) count
 
 -- one column more
 pub widens-next : (old new next : List ℕ) (row : List (List ℕ)) (n size : ℕ) → size ≡ size_at row n → n < length old → next ≡ set new n (max (get_or new n 0) size) → WidensTo old new row n → WidensTo old next row (n + 1)

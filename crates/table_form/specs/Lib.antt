@@ -6,3 +6,4 @@ pub mod Json
 pub mod Aligned
 pub mod Forms
 pub mod Sizes
+pub mod Values

@@ -9,9 +9,11 @@ mod aligned;
 mod between;
 mod form;
 mod json;
+mod laws;
 mod number;
 mod row;
 mod sizes;
 mod tsv;
 
 pub use form::{FORMS, Form, form_of, formed};
+pub use laws::values_are_numbers;

@@ -1,9 +1,12 @@
 //! Whether a text is a number of JSON.
 
-ghost use Rattle.std.specs.Prelude.{◌≡◌, ◌≤◌, length};
-ghost use Rattle.std.specs.List.{position_or_len};
+ghost use Rattle.std.specs.Prelude.{◌≡◌, ◌==◌, ◌&&◌, ◌||◌, ◌≤◌, length, not, slice_index};
+ghost use Rattle.std.specs.Char.{is_ascii_digit};
+ghost use Rattle.std.specs.List.{list_all, position_or_len};
 ghost use Rattle.par_model.specs.Number.{is_point};
 ghost use Rattle.table_form.specs.Number.{are_digits, is_json_number, is_unsigned, is_whole, without_minus};
+
+use crate::row::{begins_with, without_first};
 
 /// Whether a text is a number of JSON without an exponent.
 pub(crate) fn is_number(text: &[u8]) -> bool
@@ -20,7 +23,15 @@ fn is_unsigned(size: &[u8]) -> bool
     if at == size.len() {
         return is_whole(size);
     }
-    is_whole(&size[..at]) && are_digits(&size[at + 1..])
+    let (whole, rest) = size.split_at(at);
+    is_pointed(whole, without_first(rest))
+}
+
+/// Whether these are the digits before a point and after it.
+fn is_pointed(whole: &[u8], part: &[u8]) -> bool
+    ensures { result ≡ (is_whole whole.now && are_digits part.now) }
+{
+    is_whole(whole) && are_digits(part)
 }
 
 /// Where the first point is, or the end of the bytes.
@@ -45,12 +56,26 @@ fn without_minus(text: &[u8]) -> &[u8]
 fn is_whole(bytes: &[u8]) -> bool
     ensures { result ≡ is_whole bytes.now }
 {
-    are_digits(bytes) && (bytes.len() == 1 || bytes[0] != b'0')
+    are_digits(bytes) && has_front(bytes)
+}
+
+/// Whether there is only one byte, or the first is no zero.
+fn has_front(bytes: &[u8]) -> bool
+    ensures { result ≡ ((length bytes.now == 1) || not (slice_index bytes.now 0 == 48)) }
+{
+    bytes.len() == 1 || !begins_with(bytes, b'0')
 }
 
 /// Whether bytes are one or more digits.
 fn are_digits(bytes: &[u8]) -> bool
     ensures { result ≡ are_digits bytes.now }
 {
-    !bytes.is_empty() && bytes.iter().all(|byte| byte.is_ascii_digit())
+    !bytes.is_empty() && all_digits(bytes)
+}
+
+/// Whether all bytes are digits.
+fn all_digits(bytes: &[u8]) -> bool
+    ensures { result ≡ list_all is_ascii_digit bytes.now }
+{
+    bytes.iter().all(|byte| byte.is_ascii_digit())
 }

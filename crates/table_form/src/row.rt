@@ -68,7 +68,7 @@ fn between_quotes(text: &[u8]) -> &[u8]
 }
 
 /// Whether a text begins with a byte.
-fn begins_with(text: &[u8], byte: u8) -> bool
+pub(crate) fn begins_with(text: &[u8], byte: u8) -> bool
     requires { 0 < byte }
     ensures { result ≡ (slice_index text.now 0 == byte) }
 {
@@ -76,7 +76,7 @@ fn begins_with(text: &[u8], byte: u8) -> bool
 }
 
 /// A text without its first byte.
-fn without_first(text: &[u8]) -> &[u8]
+pub(crate) fn without_first(text: &[u8]) -> &[u8]
     ensures { result.now ≡ drop 1 text.entry.now }
 {
     match text {

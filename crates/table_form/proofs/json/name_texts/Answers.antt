@@ -11,7 +11,7 @@ pub loop-at-preserved : goal.loop-at-preserved
 loop-at-preserved c =
     let fields = fields_of c.args.header.now in
     let at = c.loop-at.at in
-    let lt : at < length fields = omega (arith, c.loop-at-test.true, c.len.ensures) in
+    let lt : at < length fields = omega (arith, c.loop-at-test.true, c.len-at-end.ensures) in
     let name : c.push.new.self.items ≡ json_name c.field_at.result.now =
     c.in_ok-push.ensures.items ∙ ap (λ (t : List ℕ). t ++ 58 ∷ []) (c.in_ok-put_string.ensures ∙ ap (λ (t : List ℕ). t ++ json_string c.field_at.result.now) c.clear.ensures.items) in
     record {
@@ -23,5 +23,5 @@ loop-at-preserved c =
 
 pub returns : goal.returns
 returns c =
-    let le : length (fields_of c.args.header.now) ≤ c.loop-at.at = omega (arith, c.loop-at-test.false, c.len.ensures) in
+    let le : length (fields_of c.args.header.now) ≤ c.loop-at.at = omega (arith, c.loop-at-test.false, c.len-at-end.ensures) in
     c.loop-at.invariant.names ∙ ap (map json_name) (take_all c.loop-at.at (fields_of c.args.header.now) le)

@@ -18,7 +18,7 @@ returns c =
     let f = json_member c.args.keys (fields_of c.args.names.now) (fields_of c.args.row.now) in
     let all = join_by f (44 ∷ []) (range_with_len 0 (length (fields_of c.args.names.now))) in
     let start = c.args.out.now.items ++ 123 ∷ [] in
-    let same : c.fields.at ≡ length (fields_of c.args.names.now) = omega (arith, c.fields-test.false, c.fields.auto.at-end, c.len.ensures) in
+    let same : c.fields.at ≡ length (fields_of c.args.names.now) = omega (arith, c.fields-test.false, c.fields.auto.at-end, c.len-at-end.ensures) in
     two-after start all (125 ∷ 10 ∷ []) c.fields.out.items c.extend_from_slice.new.self.items
     (c.fields.invariant ∙ ap (λ (n : ℕ). start ++ join_by f (44 ∷ []) (range_with_len 0 n)) same) c.in_ok-extend_from_slice.ensures.items
     ∙ append_assoc c.args.out.now.items (123 ∷ []) (all ++ 125 ∷ 10 ∷ [])

@@ -18,7 +18,7 @@ fields-preserved c =
     let more = c.split_field.result.1.now in
     let next = c.without_first-next.result.now in
     let turn : Turns c.fields.left.now c.split_field.result.0.now more next (fields_of c.fields.row) (fields_of c.read_field.new.row) =
-    record { text = c.split_field.ensures.field; more = c.split_field.ensures.rest; next = c.without_first-next.ensures; put = c.in_ok-read_field.ensures.field } in
+    record { text_is = c.split_field.ensures.field; more_is = c.split_field.ensures.rest; next_is = c.without_first-next.ensures; put = c.in_ok-read_field.ensures.field } in
     let size = ap length c.without_first-next.ensures ∙ length-drop 1 more in
     record {
       reads = reads-more c.args.text.now c.fields.left.now c.split_field.result.0.now more next (fields_of c.fields.row) (fields_of c.read_field.new.row) turn
@@ -39,7 +39,7 @@ returns-then-not-begins_with-clause-fields c row rest is =
     let more = c.split_field.result.1.now in
     let next = c.without_first-next.result.now in
     let turn : Turns c.fields.left.now c.split_field.result.0.now more next (fields_of c.fields.row) (fields_of c.read_field.new.row) =
-    record { text = c.split_field.ensures.field; more = c.split_field.ensures.rest; next = c.without_first-next.ensures; put = c.in_ok-read_field.ensures.field } in
+    record { text_is = c.split_field.ensures.field; more_is = c.split_field.ensures.rest; next_is = c.without_first-next.ensures; put = c.in_ok-read_field.ensures.field } in
     (reads-end c.args.text.now c.fields.left.now c.split_field.result.0.now more next (fields_of c.fields.row) (fields_of c.read_field.new.row) turn
     (sym c.begins_with.ensures ∙ c.if-not-begins_with.true) c.fields.invariant.reads row rest is).0
 
@@ -48,7 +48,7 @@ returns-then-not-begins_with-clause-rest c row rest is =
     let more = c.split_field.result.1.now in
     let next = c.without_first-next.result.now in
     let turn : Turns c.fields.left.now c.split_field.result.0.now more next (fields_of c.fields.row) (fields_of c.read_field.new.row) =
-    record { text = c.split_field.ensures.field; more = c.split_field.ensures.rest; next = c.without_first-next.ensures; put = c.in_ok-read_field.ensures.field } in
+    record { text_is = c.split_field.ensures.field; more_is = c.split_field.ensures.rest; next_is = c.without_first-next.ensures; put = c.in_ok-read_field.ensures.field } in
     (reads-end c.args.text.now c.fields.left.now c.split_field.result.0.now more next (fields_of c.fields.row) (fields_of c.read_field.new.row) turn
     (sym c.begins_with.ensures ∙ c.if-not-begins_with.true) c.fields.invariant.reads row rest is).1
 

@@ -12,10 +12,10 @@ columns-preserved c =
     let size : c.characters-size.result ≡ size_at (fields_of c.args.row.now) c.columns.at =
     c.characters-size.ensures ∙ ap characters (c.as_bytes.ensures.value ∙ c.in_ok-put_cell.ensures ∙ ap shown c.field_at.ensures) in
     widens-next c.args.sizes.now.items c.columns.sizes.items c.raise.new.sizes.items (fields_of c.args.row.now) c.columns.at c.characters-size.result size
-    (omega (arith, c.columns-test.true, c.len.ensures)) c.raise.ensures c.columns.invariant
+    (omega (arith, c.columns-test.true, c.len-at-end.ensures)) c.raise.ensures c.columns.invariant
 
 pub raise-requires : goal.raise-requires
-raise-requires c = omega (arith, c.columns-test.true, c.len.ensures, c.columns.invariant.count)
+raise-requires c = omega (arith, c.columns-test.true, c.len-at-end.ensures, c.columns.invariant.count)
 
 pub returns : goal.returns
-returns c = widens-end c.args.sizes.now.items c.columns.sizes.items (fields_of c.args.row.now) c.columns.at (omega (arith, c.columns-test.false, c.len.ensures)) c.columns.invariant
+returns c = widens-end c.args.sizes.now.items c.columns.sizes.items (fields_of c.args.row.now) c.columns.at (omega (arith, c.columns-test.false, c.len-at-end.ensures)) c.columns.invariant
