@@ -4,7 +4,7 @@ use Rattle.std.specs.Prelude.{◌==◌, ◌&&◌, ◌||◌, ◌⊎◌, if◌then
 use Rattle.std.proofs.lemmas.Bool.{cases_Bool, eq-eqb, eqb-true, ne_eqb}
 use Rattle.std.proofs.lemmas.Bool.Decides.{nat_tests}
 use Rattle.std.proofs.lemmas.Fmt.{decimal_by_steps_wide, decimal_step_wide}
-use Rattle.std.proofs.lemmas.List.{get_or-append}
+use Rattle.std.proofs.lemmas.List.{get_or_append_left}
 use Rattle.std.proofs.lemmas.List.Folds.{list_all-append, list_any-append}
 use Rattle.std.proofs.Math.Nat.{div-le_self}
 use Rattle.std.specs.Char.{is_ascii_digit}
@@ -50,7 +50,7 @@ spelt-more n ds big h =
     let x = 48 + n % 10 in
     let some = h.numeral.some in
     let low : n % 10 < 10 = omega arith in
-    let first : get_or (ds ++ x ∷ []) 0 0 ≡ get_or ds 0 0 = get_or-append ds (x ∷ []) 0 0 some in
+    let first : get_or (ds ++ x ∷ []) 0 0 ≡ get_or ds 0 0 = get_or_append_left ds (x ∷ []) 0 0 some in
     let high : 48 < get_or ds 0 0 = h.high (omega (arith, big)) in
     let size = length-append ds (x ∷ []) in
     record {
