@@ -1,8 +1,8 @@
 -- A number with a point, and one without.
-use Rattle.std.proofs.Common.{◌≡◌, ◌<◌, ◌≤◌, ◌+◌, ◌∙◌, ◌∷◌, [], Bool, ℕ, zero, suc, List, true, false, ap, arith, drop, length, refl, sym, take}
+use Rattle.std.proofs.Common.{◌≡◌, ◌<◌, ◌+◌, ◌∙◌, ◌∷◌, [], Bool, ℕ, zero, suc, List, true, false, ap, arith, drop, length, refl, sym, take}
 use Rattle.std.proofs.lemmas.Bool.Decides.{nat_tests}
 use Rattle.std.specs.List.{after_first, before_first, list_any, position_or_len}
-use Rattle.std.specs.Prelude.{◌&&◌, if◌then◌else◌, nat_lt}
+use Rattle.std.specs.Prelude.{◌&&◌, if◌then◌else◌}
 use Rattle.par_model.specs.Number.{is_point}
 use Rattle.par_model.proofs.Points.{any-point}
 use Rattle.table_form.specs.Number.{are_digits, is_unsigned, is_whole}

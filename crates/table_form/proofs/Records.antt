@@ -1,5 +1,5 @@
 -- The fields of a record, and of one that gets a field more.
-use Rattle.std.proofs.Common.{◌≡◌, ◌<◌, ◌+◌, ◌∙◌, ◌∷◌, ◌++◌, [], ℕ, zero, suc, List, None, Option, Some, ap, get_or, length, map, refl, sym, take}
+use Rattle.std.proofs.Common.{◌≡◌, ◌<◌, ◌+◌, ◌∙◌, ◌∷◌, ◌++◌, [], ℕ, zero, suc, List, None, ap, get_or, length, map, refl, sym, take}
 use Rattle.std.proofs.lemmas.List.{map-append, take_more}
 use Rattle.csv.specs.Records.{field_at}
 

@@ -1,6 +1,6 @@
 -- What an aggregate prints is a number of JSON.
-use Rattle.std.proofs.Common.{◌≡◌, ◌<◌, ◌≤◌, ◌+◌, ◌-◌, ◌*◌, ◌/◌, ◌%◌, ◌^◌, ◌∙◌, ◌∷◌, ◌++◌, [], Bool, ℕ, zero, suc, ℤ, List, true, false, ap, append-nil, arith, decimal, drop, get_or, inl, inr, length, length-append, refl, sym, take, true≢false, unsigned_abs}
-use Rattle.std.specs.Prelude.{◌==◌, ◌&&◌, ◌||◌, ◌⊎◌, if◌then◌else◌, nat_lt, not, slice_index}
+use Rattle.std.proofs.Common.{◌≡◌, ◌<◌, ◌≤◌, ◌+◌, ◌*◌, ◌/◌, ◌%◌, ◌^◌, ◌∙◌, ◌∷◌, ◌++◌, [], Bool, ℕ, zero, suc, ℤ, List, true, false, ap, append-nil, arith, decimal, drop, get_or, inl, inr, length, length-append, refl, sym, take, true≢false, unsigned_abs}
+use Rattle.std.specs.Prelude.{◌==◌, ◌&&◌, ◌||◌, ◌⊎◌, if◌then◌else◌, not, slice_index}
 use Rattle.std.proofs.lemmas.Bool.{cases_Bool, eq-eqb, eqb-true, ne_eqb}
 use Rattle.std.proofs.lemmas.Bool.Decides.{nat_tests}
 use Rattle.std.proofs.lemmas.Fmt.{decimal_by_steps_wide, decimal_step_wide}
@@ -18,7 +18,7 @@ use Rattle.par_model.specs.declared.plan.ItemKind.{ItemKind}
 use Rattle.par_model.specs.declared.plan.ItemKind.TheVariants as kind
 use Rattle.par_model.specs.declared.state.SlotState.{SlotState}
 use Rattle.par_model.proofs.Points.{digit-no-point, no-point}
-use Rattle.par_model.proofs.Runs.{pow-some, pow-up}
+use Rattle.par_model.proofs.Runs.{pow-up}
 use Rattle.table_form.specs.Number.{are_digits, is_json_number, is_unsigned, is_whole, without_minus}
 use Rattle.table_form.specs.Values.{IsInRange}
 

@@ -4,7 +4,6 @@ use Rattle.std.proofs.Math.ListN.{length-set, set}
 use Rattle.std.proofs.lemmas.List.{get_or-replicate, length-replicate}
 use Rattle.std.proofs.lemmas.List.FromFn.{get_or-map-range_with_len, length-map-range_with_len}
 use Rattle.std.proofs.lemmas.Grind.{same_number_lists}
-use Rattle.std.specs.List.{range_with_len}
 use Rattle.std.specs.Prelude.{replicate}
 use Rattle.csv.specs.Writing.{read_back}
 use Rattle.par_model.specs.Table.{table_text}

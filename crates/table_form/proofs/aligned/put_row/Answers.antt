@@ -1,4 +1,4 @@
-use Rattle.std.proofs.Common.{◌≡◌, ◌≤◌, ◌∙◌, ◌∷◌, ◌++◌, [], List, ℕ, ap, append-nil, arith, get_or, length, sym}
+use Rattle.std.proofs.Common.{◌≡◌, ◌∙◌, ◌∷◌, ◌++◌, [], List, ℕ, ap, append-nil, arith, get_or, length, sym}
 use Rattle.std.specs.List.{join_by, range_with_len}
 use Rattle.std.specs.Prelude.{nat_lt}
 use Rattle.csv.specs.Records.{fields_of}

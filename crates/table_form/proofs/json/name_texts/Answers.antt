@@ -1,4 +1,4 @@
-use Rattle.std.proofs.Common.{◌≡◌, ◌<◌, ◌≤◌, ◌∙◌, ◌∷◌, ◌++◌, [], List, ℕ, ap, arith, length, map, refl, take_all}
+use Rattle.std.proofs.Common.{◌≡◌, ◌<◌, ◌≤◌, ◌∙◌, ◌∷◌, ◌++◌, [], List, ℕ, ap, arith, length, map, take_all}
 use Rattle.csv.specs.Records.{fields_of, partial_of}
 use Rattle.table_form.specs.Json.{json_name, json_string}
 use Rattle.table_form.proofs.Records.{field-put, made-more}

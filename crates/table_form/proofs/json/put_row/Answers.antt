@@ -1,4 +1,4 @@
-use Rattle.std.proofs.Common.{◌≡◌, ◌≤◌, ◌∙◌, ◌∷◌, ◌++◌, [], List, ℕ, ap, append-nil, append_assoc, arith, length, sym}
+use Rattle.std.proofs.Common.{◌≡◌, ◌∙◌, ◌∷◌, ◌++◌, [], ℕ, ap, append-nil, append_assoc, arith, length, sym}
 use Rattle.std.specs.List.{join_by, range_with_len}
 use Rattle.csv.specs.Records.{fields_of}
 use Rattle.table_form.specs.Json.{json_member}

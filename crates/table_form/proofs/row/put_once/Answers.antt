@@ -1,4 +1,4 @@
-use Rattle.std.proofs.Common.{◌≡◌, ◌+◌, ◌∙◌, ◌++◌, List, ℕ, ap, append-nil, drop, false, sym}
+use Rattle.std.proofs.Common.{◌+◌, ◌∙◌, ◌++◌, List, ℕ, ap, append-nil, drop, false, sym}
 use Rattle.std.proofs.lemmas.List.{drop_all, drop_more}
 use Rattle.table_form.specs.Reading.{once}
 use Rattle.table_form.proofs.FieldTexts.{once-none}

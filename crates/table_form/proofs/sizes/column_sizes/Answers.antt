@@ -1,4 +1,4 @@
-use Rattle.std.proofs.Common.{◌≡◌, ◌∙◌, ℕ, ap, length, map}
+use Rattle.std.proofs.Common.{◌∙◌, ℕ, ap, length, map}
 use Rattle.std.specs.Prelude.{replicate}
 use Rattle.csv.specs.Records.{fields_of}
 use Rattle.csv.specs.Writing.{read_back}

@@ -1,4 +1,4 @@
-use Rattle.std.proofs.Common.{◌≡◌, ◌<◌, ◌≤◌, ◌∙◌, ℕ, ap, arith, length}
+use Rattle.std.proofs.Common.{◌≡◌, ◌∙◌, ap, arith}
 use Rattle.csv.specs.Records.{fields_of}
 use Rattle.table_form.specs.Aligned.{characters, shown}
 use Rattle.table_form.proofs.Widths.{size_at, widens-end, widens-init, widens-next}

@@ -1,4 +1,4 @@
-use Rattle.std.proofs.Common.{◌≡◌, ◌<◌, ◌≤◌, ◌∙◌, ◌∷◌, ◌++◌, [], List, ℕ, ap, append-nil, arith, length, sym, take}
+use Rattle.std.proofs.Common.{◌<◌, ◌≤◌, ◌∙◌, ◌∷◌, ◌++◌, [], List, ℕ, ap, append-nil, arith, length, sym}
 use Rattle.std.specs.List.{join_by}
 use Rattle.csv.specs.Records.{fields_of}
 use Rattle.table_form.specs.Tsv.{tsv_field}
