@@ -1,8 +1,8 @@
 -- What is left of a source with a header, from step to step.
-use Rattle.std.proofs.Common.{◌≡◌, ◌<◌, ◌≤◌, ◌+◌, ◌∙◌, ◌∷◌, ◌++◌, [], Bool, ℕ, zero, suc, List, None, Option, Some, Result, Ok, Err, true, false, ap, append-nil, append_assoc, arith, inl, inr, length, refl, sym, take}
+use Rattle.std.proofs.Common.{◌≡◌, ◌<◌, ◌≤◌, ◌+◌, ◌∙◌, ◌∷◌, ◌++◌, [], Bool, ℕ, zero, suc, List, None, Option, Some, Result, Ok, Err, true, false, ap, append-nil, append_assoc, arith, inl, inr, length, min, refl, sym, take}
 use Rattle.std.specs.Prelude.{◌⊎◌, if◌then◌else◌, not}
-use Rattle.std.proofs.lemmas.Bool.{cases_Bool}
-use Rattle.std.proofs.lemmas.List.{take-append-le}
+use Rattle.std.proofs.lemmas.Bool.{cases_lt}
+use Rattle.std.proofs.lemmas.List.{take-append-le, take_all}
 use Rattle.std.specs.Io.KnownBytes.{Consumes, IsAtEnd, Keeps, ReadConsumes, prepend_known}
 use Rattle.std.specs.Option.{option_map}
 use Rattle.csv.specs.Reading.{is_bom, strip_bom}
@@ -86,3 +86,10 @@ none-front (Some x) = refl
 pub new-left : (on : Bool) (front ahead : List ℕ) (left : Option (List ℕ)) → front ≡ [] → ahead ≡ [] → (if not on then prepend_known ahead left else option_map numbered (prepend_known front left)) ≡ left_as on left
 new-left true front ahead left front_is ahead_is = ap (λ (t : List ℕ). option_map numbered (prepend_known t left)) front_is ∙ ap (option_map numbered) (none-front left)
 new-left false front ahead left front_is ahead_is = ap (λ (t : List ℕ). prepend_known t left) ahead_is ∙ none-front left
+
+-- no more bytes than there are
+pub take-few : (n : ℕ) (xs : List ℕ) → take (min (length xs) n) xs ≡ take n xs
+take-few n xs = elim (cases_lt n (length xs)) [
+  | inl lt ↦ let few : min (length xs) n ≡ n = omega (arith, lt) in ap (λ (k : ℕ). take k xs) few
+  | inr le ↦ let all : min (length xs) n ≡ length xs = omega (arith, le) in ap (λ (k : ℕ). take k xs) all ∙ take_all (length xs) xs (omega arith) ∙ sym (take_all n xs le)
+]

@@ -1,6 +1,6 @@
 //! The header of a table that has none.
 
-ghost use Rattle.std.specs.Prelude.{◌≡◌, ◌++◌, ◌∷◌, [], IfOk, OnOk, decimal, take};
+ghost use Rattle.std.specs.Prelude.{◌≡◌, ◌++◌, ◌∷◌, [], IfOk, OnOk, decimal, length, min, take};
 ghost use Rattle.numbered_rows.specs.Numbers.{header_text, headed, lead, width_of};
 
 use crate::front::FRONT;
@@ -11,10 +11,17 @@ use std::alloc::{AllocError, Global};
 pub(crate) fn headed(alloc: Global, front: &[u8]) -> Result<Vec<u8>, AllocError>
     ensures { IfOk result (λ text. text.items ≡ headed (width_of (take FRONT front.now)) front.now) }
 {
-    let width = width_of(alloc, &front[..front.len().min(FRONT)])?;
+    let width = width_of(alloc, counted(front))?;
     let mut text = header_text(alloc, width)?;
     text.extend_from_slice(without_mark(front))?;
     Ok(text)
+}
+
+/// The bytes among which fields are counted.
+fn counted(front: &[u8]) -> &[u8]
+    ensures { result.now ≡ take (min (length front.entry.now) FRONT) front.entry.now }
+{
+    &front[..front.len().min(FRONT)]
 }
 
 /// How many fields the first record has: none if there is no record.
