@@ -84,6 +84,7 @@ impl<S: Source> Numbered<S> {
     fn lack(&mut self) -> Result<(), Failed>
         ensures same { self.new ≡ record self.old { lacks = one_more self.old.lacks } }
         ensures fails { IsErr result }
+        ensures cause { HasCause (numbered_faults S.faults self.old) (numbered_faults S.faults self.new) result }
     {
         self.lacks = self.lacks.saturating_add(1);
         Err(Failed)

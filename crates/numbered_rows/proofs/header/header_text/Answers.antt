@@ -11,7 +11,8 @@ columns-init c = c.new-text.ensures.items
 
 pub columns-preserved : goal.columns-preserved
 columns-preserved c =
-    place-more (λ (at : ℕ). decimal (at + 1)) (44 ∷ []) c.columns.at [] c.columns.text.items c.put_lead.new.text.items c.put_number.new.text.items c.in_ok-put_lead.ensures c.in_ok-put_number.ensures c.columns.invariant
+    place-more (λ (at : ℕ). decimal (at + 1)) (44 ∷ []) c.columns.at [] c.columns.text.items c.put_lead.new.text.items c.put_number.new.text.items c.in_ok-put_lead.ensures
+    (c.in_ok-put_number.ensures ∙ ap (λ (n : ℕ). c.put_lead.new.text.items ++ decimal (n + 1)) c.from.ensures) c.columns.invariant
 
 pub returns : goal.returns
 returns c =
