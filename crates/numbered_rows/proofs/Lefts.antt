@@ -1,12 +1,12 @@
 -- What is left of a source with a header, from step to step.
-use Rattle.std.proofs.Common.{◌≡◌, ◌<◌, ◌≤◌, ◌+◌, ◌∙◌, ◌∷◌, ◌++◌, [], Bool, ℕ, zero, suc, List, None, Option, Some, Result, Ok, Err, true, false, ap, append-nil, append_assoc, arith, inl, inr, length, min, refl, sym, take, true≢false}
+use Rattle.std.proofs.Common.{◌≡◌, ◌≤◌, ◌+◌, ◌∙◌, ◌∷◌, ◌++◌, [], Bool, ℕ, List, None, Option, Some, Result, Ok, Err, true, false, ap, append-nil, append_assoc, arith, inl, inr, length, min, refl, sym, take, true≢false}
 use Rattle.std.specs.Prelude.{◌⊎◌, if◌then◌else◌, not}
 use Rattle.std.proofs.lemmas.Bool.{cases_lt}
 use Rattle.std.proofs.lemmas.List.{take-append-le, take_all}
-use Rattle.std.specs.Io.KnownBytes.{Consumes, IsAtEnd, Keeps, ReadConsumes, prepend_known}
+use Rattle.std.specs.Io.KnownBytes.{Consumes, Keeps, ReadConsumes, prepend_known}
 use Rattle.std.specs.Option.{option_map}
 use Rattle.csv.specs.Reading.{is_bom, strip_bom}
-use Rattle.par_io.specs.Faults.{HasCause, Rose, one_more}
+use Rattle.par_io.specs.Faults.{HasCause}
 use Rattle.numbered_rows.specs.Front.{IsFront}
 use Rattle.numbered_rows.specs.Left.{left_as}
 use Rattle.numbered_rows.specs.Numbers.{headed, header_text, numbered, width_of}
@@ -96,11 +96,11 @@ take-few n xs = elim (cases_lt n (length xs)) [
 ]
 
 -- what stays of a source that is closed, and a read of one that is open
-pub keeps-closed : (open : Bool) (a b x : Option (List ℕ)) → open ≡ false → Keeps b x → Keeps (if open then a else b) x
+pub keeps-closed : (now : Bool) (a b x : Option (List ℕ)) → now ≡ false → Keeps b x → Keeps (if now then a else b) x
 keeps-closed true a b x is keeps = absurd (true≢false is)
 keeps-closed false a b x is keeps = keeps
 
-pub reads-open : {E : Type 0} (open : Bool) (a b a' b' : Option (List ℕ)) (r : Result ℕ E) (buf : List ℕ) → open ≡ true → ReadConsumes a b r buf → ReadConsumes (if open then a else a') (if open then b else b') r buf
+pub reads-open : {E : Type 0} (now : Bool) (a b a' b' : Option (List ℕ)) (r : Result ℕ E) (buf : List ℕ) → now ≡ true → ReadConsumes a b r buf → ReadConsumes (if now then a else a') (if now then b else b') r buf
 reads-open true a b a' b' r buf is reads = reads
 reads-open false a b a' b' r buf is reads = absurd (true≢false (sym is))
 

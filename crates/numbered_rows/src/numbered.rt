@@ -49,7 +49,7 @@ impl<S: Source> Numbered<S> {
     /// Reads the front, and makes the header, unless that is done.
     fn open(&mut self) -> Result<(), Failed>
         ensures keeps { Keeps (numbered_left S.left self.old) (numbered_left S.left self.new) }
-        ensures open { OnOk result (self.new.is_open ≡ true) }
+        ensures opens { OnOk result (self.new.is_open ≡ true) }
         ensures cause { HasCause (numbered_faults S.faults self.old) (numbered_faults S.faults self.new) result }
     {
         if self.is_open {
@@ -67,7 +67,7 @@ impl<S: Source> Numbered<S> {
         requires closed { self.old.is_open ≡ false }
         requires front { IsFront self.old.front.items (S.left self.old.source) }
         ensures keeps { Keeps (numbered_left S.left self.old) (numbered_left S.left self.new) }
-        ensures open { OnOk result (self.new.is_open ≡ true) }
+        ensures opens { OnOk result (self.new.is_open ≡ true) }
         ensures cause { HasCause (numbered_faults S.faults self.old) (numbered_faults S.faults self.new) result }
     {
         match headed(self.alloc, self.front.as_slice()) {

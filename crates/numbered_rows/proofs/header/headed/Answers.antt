@@ -1,5 +1,4 @@
 use Rattle.std.proofs.Common.{◌∙◌, ◌++◌, List, ℕ, ap, take}
-use Rattle.csv.specs.Reading.{strip_bom}
 use Rattle.numbered_rows.specs.Numbers.{header_text, width_of}
 use Rattle.numbered_rows.specs.declared.front.TheConstants.{FRONT}
 use Rattle.numbered_rows.proofs.Lefts.{take-few}

@@ -1,8 +1,8 @@
-use Rattle.std.proofs.Common.{◌≡◌, ◌<◌, ◌≤◌, ◌+◌, ◌∙◌, ◌∷◌, ◌++◌, [], Bool, List, ℕ, ap, arith, decimal, sym}
+use Rattle.std.proofs.Common.{◌≡◌, ◌+◌, ◌∙◌, ◌∷◌, ◌++◌, [], Bool, List, ℕ, ap, arith, decimal, sym}
 use Rattle.std.specs.List.{join_by, range_with_len}
-use Rattle.std.specs.Prelude.{◌==◌, if◌then◌else◌}
+use Rattle.std.specs.Prelude.{if◌then◌else◌}
 use Rattle.std.proofs.lemmas.Bool.{ne_eqb}
-use Rattle.numbered_rows.specs.Numbers.{header_text, numbers_text}
+use Rattle.numbered_rows.specs.Numbers.{numbers_text}
 use Rattle.numbered_rows.proofs.Joins.{place-more}
 use Rattle.numbered_rows.proofs.header.header_text.Goals as goal
 

@@ -1,5 +1,5 @@
-use Rattle.std.proofs.Common.{◌≡◌, ◌∙◌, List, ℕ, ap, length, sym}
-use Rattle.csv_rows.specs.Records.{record_at, records_of}
+use Rattle.std.proofs.Common.{◌∙◌, List, ℕ, ap, length}
+use Rattle.csv_rows.specs.Records.{record_at}
 use Rattle.numbered_rows.proofs.header.width_of.Goals as goal
 
 pub returns-in-Ok : goal.returns-in-Ok
