@@ -1,12 +1,14 @@
 mod AllEnds
 mod Batches
 mod Doubles
-mod Feeds
-mod Found
+pub mod Exchanged
+pub mod Feeds
+pub mod Found
 pub mod Gathering
-mod Parts
+pub mod Parts
 mod Places
+pub mod ReadAs
 pub mod Refusals
-mod Streams
+pub mod Streams
 mod Takes
-mod Windows
+pub mod Windows
