@@ -1,8 +1,11 @@
 mod Commands
+mod Few
 mod Files
 mod Found
 mod Lines
 mod Made
 mod Numbers
+mod Separates
 mod Statuses
 mod Taken
+mod TextsAfter

@@ -1,7 +1,8 @@
 -- What was read of a source, whole: its size, and its rows.
 use Rattle.std.proofs.Common.{inl, inr, ◌≡◌, ◌+◌, ◌++◌, ◌∷◌, ◌∙◌, ℕ, List, [], All, Option, None, Some, IfSome, ap, append_assoc, arith, length, length-append, refl, subst, sym}
 use Rattle.std.specs.Io.KnownBytes.{Consumes, IsAtEnd}
-use Rattle.csv_rows.specs.Records.{record_at, records_of}
+use Rattle.csv_rows.specs.Readings.{records_as}
+use Rattle.csv_rows.specs.Records.{record_at}
 use Rattle.par_io.specs.Faults.{Rose}
 use Rattle.par_model.specs.Named.{NamedPlan, bound_plan, missing_name}
 use Rattle.par_model.specs.Outcome.{Refused as IsRefused, by_missing, by_refused}
@@ -19,6 +20,7 @@ use Rattle.stream_groups.specs.Outcome.{outcome}
 use Rattle.stream_groups.specs.Reading.{AreGroupsOver}
 use Rattle.stream_groups.specs.Stops.{NamesFirstRow}
 use Rattle.stream_groups.specs.Taken.{Takes}
+use Rattle.stream_groups.specs.Ways.{of_text}
 use Rattle.stream_groups.specs.declared.reading.ReadGroups.{ReadGroups}
 use Rattle.stream_groups.specs.declared.taken.Taken.{Taken}
 use Rattle.stream_groups.specs.declared.taken.Taken.TheVariants as taken
@@ -70,7 +72,7 @@ fault_later from left f g h t takes rose = omega (arith, takes.faults, rose)
 -- ---- the rows
 
 -- all are counted
-pub counted_rows : (query : Query) (from : Option (List ℕ)) (r : ReadGroups) (over : AreGroupsOver query from r) (m : GroupsByKey) → AreGroups r.bound over.rows m → AreCounted query over.header from r.rows m
+pub counted_rows : (query : Query) (from : Option (List ℕ)) (r : ReadGroups) (over : AreGroupsOver (of_text query.reading) query from r) (m : GroupsByKey) → AreGroups r.bound over.rows m → AreCounted query over.header from r.rows m
 counted_rows query from r over m are = record {
   rows = over.rows;
   counted = over.count;
@@ -92,7 +94,7 @@ by_name names header rows (Some name) others r is = cc is
 by_name names header rows None others r is = by_list (refused_rows (bound_plan header names) (length header) rows) others r is
 
 -- a row is the first refused one
-refused_first : (query : Query) (header : List (List ℕ)) (records : Table) (bytes : List ℕ) (others : List (ℕ × Refusal)) (why : RefusedRow) → records_of bytes ≡ records → record_at records 0 ≡ header
+refused_first : (query : Query) (header : List (List ℕ)) (records : Table) (bytes : List ℕ) (others : List (ℕ × Refusal)) (why : RefusedRow) → records_as query.reading bytes ≡ records → record_at records 0 ≡ header
     → outcome query.plan records ≡ IsRefused ((why.row, record { cause = why.cause; item = why.item }) ∷ others) → RefuseFirst query header why bytes
 refused_first query header [] bytes others why are same is = cc is
 refused_first query header (head ∷ rows) bytes others why are same is = record {
@@ -105,8 +107,8 @@ refused_first query header (head ∷ rows) bytes others why are same is = record
   };
 }
 
-pub refused_rows_of : (query : Query) (from : Option (List ℕ)) (row line : ℕ) (why : Refusal) (header_line said : List ℕ) (names : NamesFirstRow query from row line why header_line said)
+pub refused_rows_of : (query : Query) (from : Option (List ℕ)) (row line : ℕ) (why : Refusal) (header_line said : List ℕ) (names : NamesFirstRow (of_text query.reading) query from row line why header_line said)
     → IfSome from (RefuseFirst query names.header (record { row = row; cause = why.cause; item = why.item }))
 refused_rows_of query None row line why header_line said names = tt
 refused_rows_of query (Some bytes) row line why header_line said names =
-    refused_first query names.header (records_of bytes) bytes names.first.0 (record { row = row; cause = why.cause; item = why.item }) refl names.are.0 names.first.1
+    refused_first query names.header (records_as query.reading bytes) bytes names.first.0 (record { row = row; cause = why.cause; item = why.item }) refl names.are.0 names.first.1

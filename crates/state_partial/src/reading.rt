@@ -8,6 +8,7 @@ ghost use Rattle.state_partial.specs.Reads.{IsPartRead};
 ghost use Rattle.stream_groups.specs.Reading.{AreGroupsOver};
 ghost use Rattle.stream_groups.specs.Stops.{Tells};
 ghost use Rattle.stream_groups.specs.Taken.{Takes};
+ghost use Rattle.stream_groups.specs.Ways.{of_text};
 ghost use Rattle.stream_groups.specs.declared.stop.Stop.TheVariants as stop;
 ghost use Rattle.stream_groups.specs.declared.taken.Taken.TheVariants as amount;
 
@@ -22,7 +23,7 @@ use std::sync::Wait;
 use std::thread::Threads;
 use stream_groups::{Progress, ReadGroups, RefusedRow as StoppedRow, Stop, Taken, read_groups};
 
-/// What a source comes to: the header as it is written there, how many rows there are or the first refused one, their groups, and how many
+/// What a source comes to: the header as it is written in the input, how many rows there are or the first refused one, their groups, and how many
 /// bytes it has.
 #[derive(Drop)]
 pub(crate) struct Part {
@@ -32,7 +33,7 @@ pub(crate) struct Part {
     pub(crate) size: u64,
 }
 
-/// Reads a source whole, also after a refused row, with this many workers.
+/// Reads a source whole, also after a refused row, with this many workers. Its text has a comma between two fields.
 pub(crate) fn read_part<R: Threads + Wait + Sync, S: Source, P: Progress>(
     rt: &R,
     alloc: Global,
@@ -44,7 +45,7 @@ pub(crate) fn read_part<R: Threads + Wait + Sync, S: Source, P: Progress>(
 ) -> Result<Part, Stop>
     requires workers { workers ≤ MOST_WORKERS }
     ensures read { IfOk result (IsPartRead plan.now (S.left source.old)) }
-    ensures why { IfErr result (Tells plan.now (S.left source.old)) }
+    ensures why { IfErr result (Tells (of_text plan.now.reading) plan.now (S.left source.old)) }
     ensures no_row { IfErr result (λ why. (row : StoppedRow) → why ≡ stop.Refused row → ⊥) }
     ensures read_fault { IfErr result (λ why. why ≡ stop.ReadFault → Rose (S.faults source.old) (S.faults source.new)) }
     ensures no_write { IfErr result (λ why. (why ≡ stop.WriteFault) → ⊥) }
@@ -78,8 +79,8 @@ fn counted_part<R: Threads + Sync>(
     read: ReadGroups,
     taken: Taken,
 ) -> Result<Part, Stop>
-    requires { (query : Query) × (from : Option (List ℕ)) × AreGroupsOver query from read }
-    ensures read { IfOk result (λ part. (query : Query) (from left : Option (List ℕ)) (before after : ℕ) → AreGroupsOver query from read → IsAtEnd left → Takes from left before after (amount.Bytes 0) taken → IsPartRead query from part) }
+    requires { (query : Query) × (from : Option (List ℕ)) × AreGroupsOver (of_text query.reading) query from read }
+    ensures read { IfOk result (λ part. (query : Query) (from left : Option (List ℕ)) (before after : ℕ) → AreGroupsOver (of_text query.reading) query from read → IsAtEnd left → Takes from left before after (amount.Bytes 0) taken → IsPartRead query from part) }
     ensures why { IfErr result (λ why. why ≡ stop.Memory) }
 {
     let Taken::Bytes(size) = taken else {
@@ -102,7 +103,7 @@ fn counted_part<R: Threads + Sync>(
 
 /// The part of a source of which this row is the first refused one.
 fn refused_part(alloc: Global, row: StoppedRow, size: u64) -> Part
-    ensures { (query : Query) (from : Option (List ℕ)) → Tells query from (stop.Refused row) → IfSome from (λ bytes. size ≡ length bytes) → IsPartRead query from result }
+    ensures { (query : Query) (from : Option (List ℕ)) → Tells (of_text query.reading) query from (stop.Refused row) → IfSome from (λ bytes. size ≡ length bytes) → IsPartRead query from result }
 {
     Part {
         header: row.header,

@@ -1,6 +1,7 @@
 use Rattle.std.proofs.Common.{rules, subst}
 use Rattle.std.proofs.lemmas.Result.{IfOk-weaker}
 use Rattle.stream_groups.specs.Stops.{Tells}
+use Rattle.stream_groups.specs.Ways.{of_text}
 use Rattle.state_partial.proofs.reading.read_part.Goals as goal
 
 pub counted_part-requires : goal.counted_part-requires
@@ -17,7 +18,7 @@ pub returns-in-Ok-size_after-clause-read : goal.returns-in-Ok-size_after-clause-
 returns-in-Ok-size_after-clause-read g c =
     let from = g.S.Source.left c.args.source.now in
     let is = c.in-Err-Refused.ensures in
-    c.refused_part.ensures c.args.plan.now from (subst (Tells c.args.plan.now from) c.in-Err-Refused.field-0-is is.why) (c.in-Ok-size_after.ensures.size from (g.S.Source.faults c.args.source.now) is.taken)
+    c.refused_part.ensures c.args.plan.now from (subst (Tells (of_text c.args.plan.now.reading) c.args.plan.now from) c.in-Err-Refused.field-0-is is.why) (c.in-Ok-size_after.ensures.size from (g.S.Source.faults c.args.source.now) is.taken)
 
 pub returns-in-Err-size_after-clause-read_fault : goal.returns-in-Err-size_after-clause-read_fault
 returns-in-Err-size_after-clause-read_fault g c = λ e.
