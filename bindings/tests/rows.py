@@ -37,8 +37,8 @@ STREAMS = [
         "--agg count --plan hash",
         b"g\n1\n",
         b"",
-        b'parstream: "--plan" is not understood: the options are --group, --agg, --where, --decimals, --workers, --order, --limit and --output; see'
-        b" parstream --help\n",
+        b'parstream: "--plan" is not understood: the options are --group, --agg, --where, --decimals, --separator,'
+        b" --null, --trim, --workers, --order, --limit and --output; see parstream --help\n",
         2,
     ),
     (
@@ -67,7 +67,8 @@ STREAMS = [
         "--agg \udcff",
         b"v\n1\n",
         b"",
-        b"parstream: usage: parstream [--group COLUMNS] --agg ITEMS [--where FILTER].. [--decimals PLACES] [--workers N]\n",
+        b"parstream: usage: parstream [--group COLUMNS] --agg ITEMS [--where FILTER].. [--decimals PLACES]"
+        b" [--separator BYTE] [--null TEXTS] [--trim] [--workers N]\n",
         2,
     ),
     (
@@ -116,6 +117,33 @@ STREAMS = [
     ),
     ("--agg count --where PAR1=1", b"PAR1,PK\n1,2\n3,4\n", b"count\n1\n", b"", 0),
     ("--agg count --where g=a --where v!= --where=v<2", b"g,v\na,1\na,\nb,x\na,2\n", b"count\n1\n", b"", 0),
+    ("--group g --agg sum:v --separator ;", b'g;v\na;1\n"b;c,d";2\n', b'g,sum(v)\na,1\n"b;c,d",2\n', b"", 0),
+    ("--group g --agg sum:v --separator tab", b"g\tv\na,b\t1\n\t2\n", b'g,sum(v)\n,2\n"a,b",1\n', b"", 0),
+    ("--agg count:v,sum:v --null NA,NULL,-", b"v\n1\nNA\n-\nNULL\n\"NA\"\n-5\n", b"count(v),sum(v)\n2,-4\n", b"", 0),
+    ("--group g --agg count:v --trim --null NA", b'g , v\na, NA\n a ,1\n"a ",\tx\t\n', b"g,count(v)\na,2\n", b"", 0),
+    (
+        "--agg count --separator ab",
+        b"g\n1\n",
+        b"",
+        b'parstream: "ab" is not understood: --separator takes one character of ASCII that is no quote and ends no line, or'
+        b" tab; see parstream --help\n",
+        2,
+    ),
+    (
+        "--agg count --null 1,2,3,4,5,6,7,8,9",
+        b"g\n1\n",
+        b"",
+        b'parstream: "1,2,3,4,5,6,7,8,9" is not understood: --null takes one to eight texts between commas, at most 248 bytes'
+        b" in all; see parstream --help\n",
+        2,
+    ),
+    (
+        "--agg count --trim=yes",
+        b"g\n1\n",
+        b"",
+        b'parstream: "--trim=yes" is not understood: --trim takes no value; see parstream --help\n',
+        2,
+    ),
     ('--agg count --where g="1"', b"g\n1\n01\n", b"count\n1\n", b"", 0),
     ("--agg count --where g=a --where v<2", b"g,v\nb,x\na,x\n", b"", b"parstream: row 2 (line 3): filter column \"v\" is not an integer: \"x\"\n", 1),
     (

@@ -10,8 +10,8 @@ nothing of the program: `parstream partial` has to write the same bytes, and `pa
 bytes of their sum. `parstream finalize` of all that is left has to give the table of one pass, in one piece or by ranges, or to
 refuse the same row; with a part left out or twice the status is 9 or 8. Then files are damaged, 10,000 times at least. One with any bytes is refused. One
 whose checksums and foot were made anew is refused for the cause that is found here, or, if there is none, is a file that reads
-back as it is. The files of version 1 that are kept in bindings/tests/states come to what they came to when they were made. Ends with
-a line of what was tried, or with what is wrong.
+back as it is. The files of version 1 that are kept in bindings/tests/states come to what they came to when they were made, and heads
+that say how fields are read are refused. Ends with a line of what was tried, or with what is wrong.
 """
 import csv
 import io
@@ -690,6 +690,18 @@ def kept_files(program):
         fail("refused.states refuses another row")
 
 
+def other_readings(program):
+    """Heads that say how fields are read are refused: what files come to is said of fields as they are, between commas."""
+    for said in ("=separator=;", "=separator=tab", "=null=NA,-", "=trim"):
+        plan = Plan.of(["k"], [("count", None)], [], "")
+        plan.of_filters = lambda said=said: [said]
+        data = states_of(plan, b"k,v\n", [(0, 0, 4, 4, [])], 1)
+        for form in ("combine", "finalize"):
+            done = program.run([form], data)
+            if done != (8, b"", b"parstream: file 1: no right head\n"):
+                fail(f"{form} of a head with {said} ended with", *done)
+
+
 def main(words):
     program = Program(*(os.path.abspath(word) for word in (words[:1] + words[3:4])))
     seconds = float(words[1]) if len(words) > 1 else 40.0
@@ -699,6 +711,7 @@ def main(words):
     while counts["texts"] < 60 or time.monotonic() < end:
         kept += [(data, plan) for data, plan in one_text(rng, program, counts) if len(data) < 1500]
     kept_files(program)
+    other_readings(program)
     tried = damage(rng, program, rng.sample(kept, min(100, len(kept))), counts, time.monotonic() + seconds / 2)
     print("states: " + ", ".join(f"{counts[name]} {name}" for name in counts) + f", {tried} damaged files, as expected")
 

@@ -1,7 +1,10 @@
 pub mod AllRecords
+pub mod Among
 pub mod Bits
+pub mod Cleaned
 pub mod Compose
 pub mod Ends
+pub mod Exchanges
 pub mod Follows
 pub mod Gaps
 pub mod Groups

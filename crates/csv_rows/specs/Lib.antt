@@ -3,6 +3,7 @@ pub mod InPieces
 pub mod Masks
 pub mod Places
 pub mod Plain
+pub mod Readings
 pub mod Records
 pub mod RowEnds
 pub mod Splits

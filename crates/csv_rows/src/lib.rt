@@ -10,7 +10,9 @@
 
 #![tactic(auto)]
 
+mod cleaning;
 mod cut;
+mod exchanging;
 mod input;
 mod lines;
 mod masks;
@@ -25,9 +27,11 @@ mod scan;
 mod split;
 mod store;
 
+pub use cleaning::Reading;
 pub use cut::without_mark;
+pub use exchanging::exchange;
 pub use input::{MOST_BYTES, ReadAnswer, read_all};
 pub use par_model::read_number;
 pub use place::{Place, past_others, past_quote, scanned};
-pub use records::{MOST_RECORDS, RowsAnswer, rows, rows_in_threads};
+pub use records::{MOST_RECORDS, RowsAnswer, rows, rows_as, rows_in_threads};
 pub use store::{NearRows, Record, RowStore};

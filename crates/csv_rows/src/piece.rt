@@ -5,15 +5,18 @@
 //! and a record a run of fields. Between two fields there is no byte if csv's machine gave them one by one, and the
 //! byte that parts them if a text was copied as a whole.
 
-ghost use Rattle.std.specs.Prelude.{◌≡◌, ◌<◌, ◌≤◌, ◌∷◌, ◌++◌, ◌+◌, ℕ, List, [], IfOk, OnOk, drop, get_or, length, take};
+ghost use Rattle.std.specs.Prelude.{◌≡◌, ◌<◌, ◌≤◌, ◌∷◌, ◌++◌, ◌+◌, ℕ, List, [], IfOk, OnOk, drop, get_or, length, map, take};
 ghost use Rattle.csv.specs.Records.{Rising, cut_from, fields_of, text_of};
+ghost use Rattle.csv_rows.specs.Readings.{cleaned, exchanged};
 ghost use Rattle.csv_rows.specs.Records.{field_of, record_at};
-ghost use Rattle.csv_rows.specs.Store.{Apart, Covers, field_start, stored, stored_apart};
+ghost use Rattle.csv_rows.specs.Store.{Apart, Covers, cut_apart, field_start, stored, stored_apart};
 
+use crate::cleaning::Reading;
+use crate::exchanging::exchange;
 use crate::records::MOST_RECORDS;
 use crate::row_ends::RowEnds;
 use csv::ByteRecord;
-use std::alloc::AllocError;
+use std::alloc::{AllocError, Global};
 use std::marker::Model;
 
 /// A list of records, each a list of fields, of which there is at least one. They are numbered from 0 on.
@@ -79,6 +82,81 @@ impl Piece {
         let (start, end) = span(&self.ends, first + at as usize, self.gap);
         &self.bytes.as_slice()[start..end]
     }
+
+    /// The same records, with the comma and the separator exchanged in each field. In linear time, and in place.
+    pub(crate) fn exchanged(self, separator: u8) -> Piece
+        ensures { result ≡ map (map (map (exchanged separator))) self }
+    {
+        let Piece {
+            bytes,
+            ends,
+            row_ends,
+            gap,
+        } = self;
+        Piece::of_lists(exchanged_bytes(bytes, separator), ends, row_ends, gap)
+    }
+
+    /// The same records, with each field cleaned. Takes no memory if fields are read as they are; otherwise it makes the
+    /// lists anew, in linear time.
+    pub(crate) fn cleaned(self, alloc: Global, reading: &Reading) -> Result<Piece, AllocError>
+        ensures { IfOk result (λ piece. piece ≡ map (map (cleaned reading.now)) self) }
+    {
+        if reading.keeps_all() {
+            return Ok(self);
+        }
+        let Piece {
+            bytes,
+            ends,
+            row_ends,
+            gap,
+        } = self;
+        let (texts, places) = cleaned_fields(alloc, reading, &bytes, &ends, gap)?;
+        Ok(Piece::of_lists(texts, places, row_ends, 0))
+    }
+}
+
+/// Bytes in which the comma and the separator are exchanged.
+fn exchanged_bytes(mut bytes: Vec<u8>, separator: u8) -> Vec<u8>
+    ensures { result.items ≡ map (exchanged separator) bytes.items }
+{
+    if separator == b',' {
+        return bytes;
+    }
+    exchange(bytes.as_mut_slice(), separator);
+    bytes
+}
+
+/// The bytes and the ends of these fields, each cleaned, with no bytes between them.
+fn cleaned_fields(
+    alloc: Global,
+    reading: &Reading,
+    bytes: &Vec<u8>,
+    ends: &Vec<u32>,
+    gap: u8,
+) -> Result<(Vec<u8>, Vec<u32>), AllocError>
+    requires { Apart gap 0 ends.now.items (length bytes.now.items) }
+    ensures covers { IfOk result (λ r. Covers r.1.items (length r.0.items)) }
+    ensures fields { IfOk result (λ r. cut_from 0 r.1.items r.0.items ≡ map (cleaned reading.now) (cut_apart gap 0 ends.now.items bytes.now.items)) }
+{
+    let mut texts = Vec::new(alloc);
+    texts.reserve_exact(bytes.len())?;
+    let mut places = Vec::new(alloc);
+    places.reserve_exact(ends.len())?;
+    'fields: for i in 0..ends.len() {
+        let field = field_at(bytes.as_slice(), ends, gap, i);
+        push_field(&mut texts, &mut places, reading.cleaned(field))?;
+    }
+    Ok((texts, places))
+}
+
+/// The field at this place.
+fn field_at<'a>(bytes: &'a [u8], ends: &Vec<u32>, gap: u8, i: usize) -> &'a [u8]
+    requires fields { Apart gap 0 ends.now.items (length bytes.now) }
+    requires place { i < length ends.now.items }
+    ensures { result.now ≡ get_or (cut_apart gap 0 ends.now.items bytes.entry.now) i [] }
+{
+    let (start, end) = span(ends, i, gap);
+    &bytes[start..end]
 }
 
 /// Where the field at this place starts and ends.

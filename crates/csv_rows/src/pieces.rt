@@ -4,12 +4,14 @@
 //! no care for the bytes around it: the first half ends its last record there as at the end of a text, and the second
 //! begins with an end of line, which begins no record, so that a byte order mark after it is not taken for one.
 
-ghost use Rattle.std.specs.Prelude.{◌≡◌, ◌≢◌, ◌<◌, ◌≤◌, IfOk, length};
+ghost use Rattle.std.specs.Prelude.{◌≡◌, ◌≢◌, ◌<◌, ◌≤◌, [], IfOk, length};
 ghost use Rattle.std.specs.Thread.{IsSync};
 ghost use Rattle.csv_rows.specs.InPieces.{joined};
+ghost use Rattle.csv_rows.specs.Readings.{records_as};
 ghost use Rattle.csv_rows.specs.Records.{records_of};
 ghost use Rattle.csv_rows.specs.declared.records.RowsAnswer.TheVariants as answer;
 
+use crate::cleaning::Reading;
 use crate::cut::find_cut;
 use crate::piece::Piece;
 use crate::reading::read_records;
@@ -78,5 +80,45 @@ pub(crate) fn read_one(alloc: Global, bytes: &[u8]) -> Result<Vec<Piece>, RowsAn
         }
         Err(RowsAnswer::NoHeader) => Ok(pieces),
         Err(why) => Err(why),
+    }
+}
+
+/// The one piece of a text, if that has records, each field as it is read.
+pub(crate) fn read_one_as(
+    alloc: Global,
+    reading: &Reading,
+    bytes: &[u8],
+) -> Result<Vec<Piece>, RowsAnswer>
+    ensures records { IfOk result (λ pieces. joined pieces.items ≡ records_as reading.now bytes.now) }
+    ensures no_header { result ≢ Err answer.NoHeader }
+    ensures too_many { result ≡ Err answer.TooManyRows → MOST_RECORDS < length (records_as reading.now bytes.now) }
+{
+    let mut pieces = Vec::new(alloc);
+    match read_records_as(alloc, reading, bytes) {
+        Ok(piece) => {
+            if pieces.push(piece).is_err() {
+                return Err(RowsAnswer::Memory);
+            }
+            Ok(pieces)
+        }
+        Err(RowsAnswer::NoHeader) => Ok(pieces),
+        Err(why) => Err(why),
+    }
+}
+
+/// The records of a text, each field as it is read.
+fn read_records_as(alloc: Global, reading: &Reading, bytes: &[u8]) -> Result<Piece, RowsAnswer>
+    ensures records { IfOk result (λ piece. piece ≡ records_as reading.now bytes.now) }
+    ensures no_header { result ≡ Err answer.NoHeader → records_as reading.now bytes.now ≡ [] }
+    ensures too_many { result ≡ Err answer.TooManyRows → MOST_RECORDS < length (records_as reading.now bytes.now) }
+{
+    let piece = match read_records(alloc, bytes) {
+        Ok(piece) => piece,
+        Err(why) => return Err(why),
+    };
+    let swapped = piece.exchanged(reading.separator);
+    match swapped.cleaned(alloc, reading) {
+        Ok(read) => Ok(read),
+        Err(_) => Err(RowsAnswer::Memory),
     }
 }

@@ -1,10 +1,12 @@
 //! The records of bytes, read in the caller's thread or in several.
 
 ghost use Rattle.std.specs.Prelude.{◌≡◌, ◌<◌, ◌≤◌, [], IfOk, OnOk, length};
+ghost use Rattle.csv_rows.specs.Readings.{records_as};
 ghost use Rattle.csv_rows.specs.Records.{records_of};
 ghost use Rattle.csv_rows.specs.declared.records.RowsAnswer.TheVariants as answer;
 
-use crate::pieces::{read_one, read_pieces};
+use crate::cleaning::Reading;
+use crate::pieces::{read_one, read_one_as, read_pieces};
 use crate::store::RowStore;
 use std::alloc::Global;
 use std::thread::Threads;
@@ -37,6 +39,22 @@ pub fn rows(alloc: Global, bytes: &[u8]) -> Result<RowStore, RowsAnswer>
     ensures too_many { result ≡ Err answer.TooManyRows → MOST_RECORDS < length (records_of bytes.now) }
 {
     match read_one(alloc, bytes) {
+        Ok(pieces) => RowStore::of_pieces(pieces),
+        Err(why) => Err(why),
+    }
+}
+
+/// The records of bytes, each field as it is read: of the text in which the comma and the separator are exchanged. The
+/// time is that of [`rows`], and a look at each byte if the separator is no comma. If white space is left out or some texts
+/// are read as nothing each field is copied once more, with memory for that.
+pub fn rows_as(alloc: Global, reading: &Reading, bytes: &[u8]) -> Result<RowStore, RowsAnswer>
+    ensures records { IfOk result (λ store. store ≡ records_as reading.now bytes.now) }
+    ensures some { OnOk result (0 < length (records_as reading.now bytes.now)) }
+    ensures few { OnOk result (length (records_as reading.now bytes.now) ≤ MOST_RECORDS) }
+    ensures no_header { result ≡ Err answer.NoHeader → records_as reading.now bytes.now ≡ [] }
+    ensures too_many { result ≡ Err answer.TooManyRows → MOST_RECORDS < length (records_as reading.now bytes.now) }
+{
+    match read_one_as(alloc, reading, bytes) {
         Ok(pieces) => RowStore::of_pieces(pieces),
         Err(why) => Err(why),
     }

@@ -12,8 +12,8 @@ use par_io::{Sink, write_whole};
 /// What `--help` and `-h` are answered.
 pub const HELP: &str = "\
 usage: parstream [--group COLUMNS] --agg ITEMS [--where FILTER]..
-                 [--decimals PLACES] [--workers N] [--order COLUMN] [--limit N]
-                 [--output FORM]
+                 [--decimals PLACES] [--separator BYTE] [--null TEXTS] [--trim]
+                 [--workers N] [--order COLUMN] [--limit N] [--output FORM]
        parstream partial [--source I/N] [--group COLUMNS] --agg ITEMS ..
        parstream partial --bytes FROM[-TO] --size S [--source I/N] ..
        parstream combine
@@ -40,6 +40,11 @@ table of the rows of all sources, if it reads the states of all of them.
                    how many digits numbers may have after the point, up to 18:
                    2 for all columns, price=2,weight=3 for some; without it
                    numbers are integers
+  --separator BYTE what comes between fields: one character, such as ';', or
+                   tab; a comma if it is not given. The table has commas
+  --null TEXTS     one to eight texts between commas, as in NA,NULL,-: a field
+                   that is one of them counts as empty
+  --trim           fields without the white space at their ends
   --workers N      0 to 64 threads besides the first; 2 if it is not given
   --order COLUMN   the rows by an item or a column of --group, as in sum:qty or
                    sum:qty:desc; year:numeric orders keys that are integers
@@ -69,6 +74,7 @@ Examples:
   parstream --group region --agg max:qty --where 'qty>=10' < orders.csv
   parstream --agg count --where region=north --where 'qty!=' < orders.csv
   parstream --agg sum:price --decimals 2 --where 'price>=9.50' < orders.csv
+  parstream --group g --agg sum:v --separator tab --null NA,- --trim < t.tsv
   parstream --group region --agg sum:qty --order sum:qty:desc --limit 10 < o.csv
   zcat orders.csv.gz | parstream --group region --agg count --workers 4
   parstream partial --source 0/2 --agg count < 2025.csv > 2025.states

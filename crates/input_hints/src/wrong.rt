@@ -2,20 +2,20 @@
 //!
 //! Which words are a query is known to `plan_spec` only. So the words that are understood are found by asking it: the
 //! first few words are, if they are a query, or are one once `--agg=count`, the `--decimals` of the line, or both come
-//! before them. A query has at most twenty-five words, five options of which one is given eight times, with their
-//! values, and `--`, so a longer line is asked about no further than that.
+//! before them. A query has at most thirty words: eight options, of which one is given eight times and one has no value,
+//! with their values, and `--`. So a longer line is asked about no further than that.
 
 ghost use Rattle.std.specs.Prelude.{◌≡◌, ◌<◌, ◌≤◌, ◌++◌, ◌∷◌, [], IfOk, IfSome, OnOk, bytes_eq, codes, if◌then◌else◌, is_none, is_some, length, slice_index_or, string_bytes, take};
 ghost use Rattle.std.specs.List.{list_any, position_or_len};
 ghost use Rattle.answer_text.specs.Words.{texts};
 ghost use Rattle.plan_spec.specs.Query.{stream_query_of};
-ghost use Rattle.input_hints.specs.Wrong.{expected_text, front_of, given_places, is_begun, is_begun_after, is_decimals, is_ended, is_equals, is_named, is_value, may_repeat, name_in, name_of, name_text, understood, values_text, wrong_after, wrong_in, wrong_option};
+ghost use Rattle.input_hints.specs.Wrong.{expected_text, front_of, given_places, is_begun, is_begun_after, is_decimals, is_ended, is_equals, is_itself, is_named, is_value, may_repeat, name_in, name_of, name_text, takes_value, understood, values_text, wants_value, wrong_after, wrong_in, wrong_option};
 
 use plan_spec::{Plan, PlanAnswer};
 use std::alloc::{AllocError, Global};
 
 /// The most words that a query has.
-pub const MOST_WORDS: usize = 25;
+pub const MOST_WORDS: usize = 30;
 
 /// An option of `parstream`.
 #[derive(Clone, Copy, Debug, PartialEq, Eq)]
@@ -25,6 +25,9 @@ pub enum Name {
     Where,
     Workers,
     Decimals,
+    Separator,
+    Null,
+    Trim,
 }
 
 /// What may come where a word is not understood.
@@ -219,12 +222,22 @@ fn is_ended(words: &[String], understood: usize) -> bool
     understood != 0 && (word_at(words, understood - 1) == "--" && !is_value(words, understood - 1))
 }
 
-/// Whether the word at a place is the value of an option: the one before it is an option's name.
+/// Whether the word at a place is the value of an option: the one before it is the name of an option that takes one.
 fn is_value(words: &[String], at: usize) -> bool
     requires { at < length words.now }
     ensures { result ≡ is_value (texts words.now) at }
 {
-    at != 0 && name_in(word_at(words, at - 1)).is_some()
+    at != 0 && wants_value(word_at(words, at - 1))
+}
+
+/// Whether a word is the name of an option that takes a value.
+fn wants_value(word: &str) -> bool
+    ensures { result ≡ wants_value word.now }
+{
+    match name_in(word) {
+        Some(name) => name.takes_value(),
+        None => false,
+    }
 }
 
 /// What is wrong at a word that begins with the name of an option, after so many words that are understood.
@@ -237,7 +250,7 @@ fn wrong_option(words: &[String], understood: usize, name: Name) -> Wrong
             at: understood,
             expected: Expected::Other,
         }
-    } else if has_value(word_at(words, understood)) {
+    } else if is_itself(name, word_at(words, understood)) {
         Wrong {
             at: understood,
             expected: Expected::Value(name),
@@ -248,6 +261,13 @@ fn wrong_option(words: &[String], understood: usize, name: Name) -> Wrong
             expected: Expected::Value(name),
         }
     }
+}
+
+/// Whether a word that names an option is itself what is not understood, if the value is: it has one, or may have none.
+fn is_itself(name: Name, word: &str) -> bool
+    ensures { result ≡ is_itself name word.now }
+{
+    has_value(word) || !name.takes_value()
 }
 
 /// A word.
@@ -309,6 +329,12 @@ fn name_in(text: &str) -> Option<Name>
         Some(Name::Workers)
     } else if text == "--decimals" {
         Some(Name::Decimals)
+    } else if text == "--separator" {
+        Some(Name::Separator)
+    } else if text == "--null" {
+        Some(Name::Null)
+    } else if text == "--trim" {
+        Some(Name::Trim)
     } else {
         None
     }
@@ -346,6 +372,9 @@ impl Name {
             Name::Where => "--where",
             Name::Workers => "--workers",
             Name::Decimals => "--decimals",
+            Name::Separator => "--separator",
+            Name::Null => "--null",
+            Name::Trim => "--trim",
         }
     }
 
@@ -355,7 +384,29 @@ impl Name {
     {
         match self {
             Name::Where => true,
-            Name::Group | Name::Agg | Name::Workers | Name::Decimals => false,
+            Name::Group
+            | Name::Agg
+            | Name::Workers
+            | Name::Decimals
+            | Name::Separator
+            | Name::Null
+            | Name::Trim => false,
+        }
+    }
+
+    /// Whether it takes a value.
+    fn takes_value(self) -> bool
+        ensures { result ≡ takes_value self }
+    {
+        match self {
+            Name::Trim => false,
+            Name::Group
+            | Name::Agg
+            | Name::Where
+            | Name::Workers
+            | Name::Decimals
+            | Name::Separator
+            | Name::Null => true,
         }
     }
 
@@ -375,6 +426,13 @@ impl Name {
             Name::Decimals => {
                 "--decimals takes a number from 0 to 18, or one for each column, as in 'price=2,weight=3'"
             }
+            Name::Separator => {
+                "--separator takes one character of ASCII that is no quote and ends no line, or tab"
+            }
+            Name::Null => {
+                "--null takes one to eight texts between commas, at most 248 bytes in all"
+            }
+            Name::Trim => "--trim takes no value",
         }
     }
 }
@@ -385,8 +443,9 @@ impl Expected {
         ensures { result.now ≡ expected_text self }
     {
         match self {
-            Expected::Name =>
-                "the options are --group, --agg, --where, --decimals, --workers, --order, --limit and --output",
+            Expected::Name => {
+                "the options are --group, --agg, --where, --decimals, --separator, --null, --trim, --workers, --order, --limit and --output"
+            }
             Expected::Other => "this option may be given once",
             Expected::Value(name) => name.values(),
             Expected::Items => "--agg ITEMS is missing",

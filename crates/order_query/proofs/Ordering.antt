@@ -14,6 +14,7 @@ use Rattle.gather_merge.specs.Used.{IsUsed}
 use Rattle.gather_merge.specs.declared.MergeAnswer.{MergeAnswer}
 use Rattle.gather_merge.specs.declared.MergeAnswer.TheVariants as merging
 use Rattle.gather_merge.specs.declared.Merged.{Merged}
+use Rattle.csv_rows.specs.Readings.{plain}
 use Rattle.par_model.specs.Named.{NamedItem, NamedPlan, bound_column, bound_item, bound_plan}
 use Rattle.par_model.specs.Outcome.{by_refused}
 use Rattle.par_model.specs.Plan.{Plan}
@@ -44,12 +45,12 @@ if-some true x y e = e
 if-some false x y e = cc e
 
 -- the parts of a query that has a number of workers
-has_parts : (items : List NamedItem) (groups : Option (List (List ℕ))) (workers : Option ℕ) (query : Query) → query_by groups (Some items) (Some []) (Some false) workers (Some 0) ≡ Some query
+has_parts : (items : List NamedItem) (groups : Option (List (List ℕ))) (workers : Option ℕ) (query : Query) → query_by groups (Some items) (Some []) (Some false) workers (Some 0) (Some plain) ≡ Some query
     → (names : List (List ℕ)) × (groups ≡ Some names) × (query.plan ≡ record { groups = names; items = items; hash = false; filters = [] })
 has_parts items None workers query e = cc e
 has_parts items (Some names) None query e = cc e
 has_parts items (Some names) (Some n) query e =
-    let same : query ≡ record { plan = record { groups = names; items = items; hash = false; filters = [] }; workers = n; area_pages = 0 } = cc e in
+    let same : query ≡ record { plan = record { groups = names; items = items; hash = false; filters = [] }; workers = n; area_pages = 0; reading = plain } = cc e in
     (names, refl, ap (λ (q : Query). q.plan) same)
 
 some_names : (text : List ℕ) (names : List (List ℕ)) → names_in text ≡ Some names → 0 < length names

@@ -12,6 +12,7 @@ use Rattle.stream_groups.specs.Outcome.{outcome}
 use Rattle.stream_groups.specs.Gathering.{HasGathered}
 use Rattle.stream_groups.specs.Reading.{AreGroupsOver}
 use Rattle.stream_groups.specs.Twice.{twice_of}
+use Rattle.stream_groups.specs.Ways.{of_bytes}
 use Rattle.stream_groups.specs.declared.reading.ReadGroups.{ReadGroups}
 use Rattle.stream_groups.proofs.Gathering.{all_accepted}
 use Rattle.stream_groups.proofs.Refusals.{accepted_table}
@@ -26,7 +27,7 @@ abbrev pub AnswersAny : Query → ReadGroups → List ℕ → Type 0
 AnswersAny query r text = (header : List (List ℕ)) (width : ℕ) (rows : Table) → r.bound ≡ bound_plan header query.plan → length rows ≤ 2 ^ 50 → HasGathered r.bound width rows r.gathered → IsAnswer query.plan (header ∷ rows) text
 
 module _ (query : Query) (r : ReadGroups) (text : List ℕ) where
-  pub table_text : (from : Option (List ℕ)) → AnswersAny query r text → AreGroupsOver query from r → IfSome from (λ bytes. IsTableText (Some query) bytes text)
+  pub table_text : (from : Option (List ℕ)) → AnswersAny query r text → AreGroupsOver (of_bytes query.reading) query from r → IfSome from (λ bytes. IsTableText (Some query) bytes text)
   table_text None answers over = tt
   table_text (Some bytes) answers over = record {
     query = query;
@@ -37,12 +38,12 @@ module _ (query : Query) (r : ReadGroups) (text : List ℕ) where
   }
 
   -- what was written of it
-  pub table_written : (from old new : Option (List ℕ)) → AnswersAny query r text → AreGroupsOver query from r → Appends old new text
+  pub table_written : (from old new : Option (List ℕ)) → AnswersAny query r text → AreGroupsOver (of_bytes query.reading) query from r → Appends old new text
       → IfSome from (λ bytes. (text : List ℕ) × IsTableText (Some query) bytes text × Appends old new text)
   table_written None old new answers over wrote = tt
   table_written (Some bytes) old new answers over wrote = (text, table_text (Some bytes) answers over, wrote)
 
-  pub part_written : (from old new : Option (List ℕ)) (n : ℕ) → AnswersAny query r text → AreGroupsOver query from r → Appends old new (take n text)
+  pub part_written : (from old new : Option (List ℕ)) (n : ℕ) → AnswersAny query r text → AreGroupsOver (of_bytes query.reading) query from r → Appends old new (take n text)
       → IfSome from (λ bytes. (text : List ℕ) × IsTableText (Some query) bytes text × (n : ℕ) × Appends old new (take n text))
   part_written None old new n answers over wrote = tt
   part_written (Some bytes) old new n answers over wrote = (text, table_text (Some bytes) answers over, n, wrote)

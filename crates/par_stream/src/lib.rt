@@ -1,4 +1,4 @@
-//! One query over comma-separated bytes of any length, from the words of a command line to an exit status, with workers
+//! One query over separated bytes of any length, from the words of a command line to an exit status, with workers
 //! or by the caller's thread only.
 //!
 //! The words name a plan; the bytes are read window by window, whole records each. The windows of a batch are shared out to
@@ -20,6 +20,7 @@ ghost use Rattle.answer_text.specs.Lines.{IsSaid};
 ghost use Rattle.answer_text.specs.Words.{texts};
 ghost use Rattle.par_stream.specs.Answers.{IsTableText};
 ghost use Rattle.stream_groups.specs.Lines.{line};
+ghost use Rattle.stream_groups.specs.Sources.{bare_faults, bare_left};
 ghost use Rattle.stream_groups.specs.Stops.{TellsOf, stop_says, usage_text};
 ghost use Rattle.plan_spec.specs.Query.{stream_query_of};
 ghost use Rattle.stream_groups.specs.declared.stop.Stop.{Stop};
@@ -33,8 +34,8 @@ use par_io::{Sink, Source};
 use std::alloc::Global;
 use std::sync::Wait;
 use std::thread::Threads;
-pub use stream_groups::{LONG_RECORD, Progress, SoFar, Stop, Untold};
-use stream_groups::{Taken, read_groups, read_words};
+pub use stream_groups::{LONG_RECORD, Progress, Separated, SoFar, Stop, Untold};
+use stream_groups::{Taken, read_input, read_words};
 
 /// The bytes that a batch of the program's windows is to have: 4 MiB.
 pub const WINDOW_BYTES: usize = 4_194_304;
@@ -53,7 +54,7 @@ pub fn stream_table<R: Threads + Wait + Sync, S: Source, O: Sink, E: Sink, P: Pr
     rt: &R,
     alloc: Global,
     words: &[String],
-    source: &mut S,
+    source: &mut Separated<S>,
     out: &mut O,
     err: &mut E,
     window_bytes: usize,
@@ -62,16 +63,16 @@ pub fn stream_table<R: Threads + Wait + Sync, S: Source, O: Sink, E: Sink, P: Pr
     // On every status but that of a table there is a reason, which tells of the outcome over all bytes; the status is the
     // reason's, and so is the line that `err` receives, or a prefix of it if a write of it failed. A fault is answered
     // only if it came in this call.
-    ensures why { (result ≢ TABLE) → (why : Stop) × TellsOf (stream_query_of (texts words.now)) (S.left source.old) why × (result ≡ (stop_says why).0)
+    ensures why { (result ≢ TABLE) → (why : Stop) × TellsOf (stream_query_of (texts words.now)) (bare_left S.left source.old) why × (result ≡ (stop_says why).0)
         × IsSaid (E.taken err.old) (E.taken err.new) (E.faults err.old) (E.faults err.new) (line (stop_says why).1) }
-    ensures read_fault { result ≡ READ_FAULT → Rose (S.faults source.old) (S.faults source.new) }
+    ensures read_fault { result ≡ READ_FAULT → Rose (bare_faults S.faults source.old) (bare_faults S.faults source.new) }
     ensures write_fault { result ≡ WRITE_FAULT → Rose (O.faults out.old) (O.faults out.new) }
     ensures quiet { result ≡ TABLE → err.new ≡ err.old }
 
     // `out` receives the table, or a prefix of it if a write failed, and on every other status nothing.
-    ensures table { result ≡ TABLE → IfSome (S.left source.old) (λ bytes.
+    ensures table { result ≡ TABLE → IfSome (bare_left S.left source.old) (λ bytes.
         (text : List ℕ) × IsTableText (stream_query_of (texts words.now)) bytes text × Appends (O.taken out.old) (O.taken out.new) text) }
-    ensures part { result ≡ WRITE_FAULT → IfSome (S.left source.old) (λ bytes.
+    ensures part { result ≡ WRITE_FAULT → IfSome (bare_left S.left source.old) (λ bytes.
         (text : List ℕ) × IsTableText (stream_query_of (texts words.now)) bytes text × (n : ℕ) × Appends (O.taken out.old) (O.taken out.new) (take n text)) }
     ensures nothing { (result ≢ TABLE) → (result ≢ WRITE_FAULT) → out.new ≡ out.old }
 
@@ -97,18 +98,18 @@ fn answer_stream<R: Threads + Wait + Sync, S: Source, O: Sink, P: Progress>(
     rt: &R,
     alloc: Global,
     words: &[String],
-    source: &mut S,
+    source: &mut Separated<S>,
     out: &mut O,
     window_bytes: usize,
     progress: &mut P,
 ) -> Result<(), Stop>
-    ensures table { OnOk result (IfSome (S.left source.old) (λ bytes.
+    ensures table { OnOk result (IfSome (bare_left S.left source.old) (λ bytes.
         (text : List ℕ) × IsTableText (stream_query_of (texts words.now)) bytes text × Appends (O.taken out.old) (O.taken out.new) text)) }
-    ensures part { IfErr result (λ why. why ≡ stop.WriteFault → IfSome (S.left source.old) (λ bytes.
+    ensures part { IfErr result (λ why. why ≡ stop.WriteFault → IfSome (bare_left S.left source.old) (λ bytes.
         (text : List ℕ) × IsTableText (stream_query_of (texts words.now)) bytes text × (n : ℕ) × Appends (O.taken out.old) (O.taken out.new) (take n text))) }
     ensures nothing { IfErr result (λ why. (why ≢ stop.WriteFault) → out.new ≡ out.old) }
-    ensures why { IfErr result (TellsOf (stream_query_of (texts words.now)) (S.left source.old)) }
-    ensures read_fault { IfErr result (λ why. why ≡ stop.ReadFault → Rose (S.faults source.old) (S.faults source.new)) }
+    ensures why { IfErr result (TellsOf (stream_query_of (texts words.now)) (bare_left S.left source.old)) }
+    ensures read_fault { IfErr result (λ why. why ≡ stop.ReadFault → Rose (bare_faults S.faults source.old) (bare_faults S.faults source.new)) }
     ensures write_fault { IfErr result (λ why. why ≡ stop.WriteFault → Rose (O.faults out.old) (O.faults out.new)) }
     ensures some { OnOk result (IsNone (stream_query_of (texts words.now)) → ⊥) }
     ensures unread { IsNone (stream_query_of (texts words.now)) → source.new ≡ source.old }
@@ -116,7 +117,7 @@ fn answer_stream<R: Threads + Wait + Sync, S: Source, O: Sink, P: Progress>(
     let plan = read_words(alloc, words)?;
     let mut taken = Taken::Bytes(0);
     let workers = plan.workers();
-    let read = read_groups(
+    let read = read_input(
         rt,
         alloc,
         &plan,

@@ -7,6 +7,7 @@ ghost use Rattle.result_text.specs.Printable.{IsBoundFrom};
 ghost use Rattle.par_stream.specs.Answers.{AnswersGathered, IsTableText};
 ghost use Rattle.stream_groups.specs.Gathering.{AreGathered};
 ghost use Rattle.stream_groups.specs.Reading.{AreGroupsOver};
+ghost use Rattle.stream_groups.specs.Ways.{of_bytes};
 ghost use Rattle.stream_groups.specs.declared.gathered.Gathered.TheVariants as kept;
 ghost use Rattle.stream_groups.specs.declared.stop.Stop.TheVariants as stop;
 
@@ -33,10 +34,10 @@ pub(crate) fn write_table<R: Threads + Sync, O: Sink>(
     read: ReadGroups,
     out: &mut O,
 ) -> Result<(), Stop>
-    requires { (from : Option (List ℕ)) × AreGroupsOver plan.now from read }
-    ensures table { OnOk result ((from : Option (List ℕ)) → AreGroupsOver plan.now from read → IfSome from (λ bytes.
+    requires { (from : Option (List ℕ)) × AreGroupsOver (of_bytes plan.now.reading) plan.now from read }
+    ensures table { OnOk result ((from : Option (List ℕ)) → AreGroupsOver (of_bytes plan.now.reading) plan.now from read → IfSome from (λ bytes.
         (text : List ℕ) × IsTableText (Some plan.now) bytes text × Appends (O.taken out.old) (O.taken out.new) text)) }
-    ensures part { IfErr result (λ why. why ≡ stop.WriteFault → (from : Option (List ℕ)) → AreGroupsOver plan.now from read → IfSome from (λ bytes.
+    ensures part { IfErr result (λ why. why ≡ stop.WriteFault → (from : Option (List ℕ)) → AreGroupsOver (of_bytes plan.now.reading) plan.now from read → IfSome from (λ bytes.
         (text : List ℕ) × IsTableText (Some plan.now) bytes text × (n : ℕ) × Appends (O.taken out.old) (O.taken out.new) (take n text))) }
     ensures nothing { IfErr result (λ why. (why ≢ stop.WriteFault) → out.new ≡ out.old) }
     ensures write_fault { IfErr result (λ why. why ≡ stop.WriteFault → Rose (O.faults out.old) (O.faults out.new)) }

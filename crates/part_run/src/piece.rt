@@ -11,7 +11,7 @@ ghost use Rattle.split_run.specs.Causes.{IsCause};
 ghost use Rattle.split_run.specs.Pieces.{piece_records, piece_rows};
 ghost use Rattle.part_run.specs.Carrying.{spread};
 
-use csv_rows::{Record, RowStore, rows};
+use csv_rows::{Record, RowStore, rows_as};
 use par_model::BoundPlan;
 use partial_agg::{BlockAnswer, RowBuffer, RowStatus};
 use row_lists::PartLists;
@@ -31,7 +31,7 @@ pub(crate) fn spread_piece(
     ensures count { IfOk result (λ count. count ≡ length (piece_rows piece.now)) }
     ensures refused { IfErr result (IsCause plan.now (piece_records piece.now)) }
 {
-    let Ok(store) = rows(alloc, piece.table()) else {
+    let Ok(store) = rows_as(alloc, piece.reading(), piece.table()) else {
         return Err(BlockAnswer::Memory);
     };
     match spread_store(&store, plan, lists) {

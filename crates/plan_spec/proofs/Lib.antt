@@ -4,6 +4,7 @@ pub mod Fills
 pub mod Present
 pub mod Merges
 pub mod Missing
+pub mod Nulls
 pub mod Numbers
 pub mod Parsed
 pub mod Places

@@ -2,6 +2,7 @@
 use Rattle.std.proofs.Common.{◌≡◌, ℕ, Bool, List, Option, Some, None, refl}
 use Rattle.std.specs.Prelude.{option_and_then}
 use Rattle.par_model.specs.Named.{NamedFilter, NamedItem}
+use Rattle.csv_rows.specs.declared.cleaning.Reading.{Reading}
 use Rattle.plan_spec.specs.Query.{query_by}
 
 -- what has no value in any case
@@ -9,25 +10,44 @@ pub never : {A B : Type 0} (f : A → Option B) (o : Option A) → ((x : A) → 
 never f None none = refl
 never f (Some x) none = none x
 
-pub no_filters : (groups : Option (List (List ℕ))) (items : Option (List NamedItem)) (hash : Option Bool) (workers pages : Option ℕ) → query_by groups items None hash workers pages ≡ None
-no_filters None items hash workers pages = refl
-no_filters (Some g) None hash workers pages = refl
-no_filters (Some g) (Some i) hash workers pages = refl
+pub no_filters : (groups : Option (List (List ℕ))) (items : Option (List NamedItem)) (hash : Option Bool) (workers pages : Option ℕ) (reading : Option Reading) → query_by groups items None hash workers pages reading ≡ None
+no_filters None items hash workers pages reading = refl
+no_filters (Some g) None hash workers pages reading = refl
+no_filters (Some g) (Some i) hash workers pages reading = refl
 
-pub no_hash : (workers pages : Option ℕ) (groups : Option (List (List ℕ))) (items : Option (List NamedItem)) (filters : Option (List NamedFilter)) → query_by groups items filters None workers pages ≡ None
-no_hash workers pages None items filter = refl
-no_hash workers pages (Some g) None filter = refl
-no_hash workers pages (Some g) (Some i) None = refl
-no_hash workers pages (Some g) (Some i) (Some f) = refl
+module _ (groups : Option (List (List ℕ))) (items : Option (List NamedItem)) (filters : Option (List NamedFilter)) where
+  pub no_hash : (workers pages : Option ℕ) (reading : Option Reading) → query_by groups items filters None workers pages reading ≡ None
+  no_hash workers pages reading = by groups items filters
+    where
+      by : (g : Option (List (List ℕ))) (i : Option (List NamedItem)) (f : Option (List NamedFilter)) → query_by g i f None workers pages reading ≡ None
+      by None i f = refl
+      by (Some g) None f = refl
+      by (Some g) (Some i) None = refl
+      by (Some g) (Some i) (Some f) = refl
 
-pub no_workers : (groups : Option (List (List ℕ))) (items : Option (List NamedItem)) (filters : Option (List NamedFilter)) (hash : Bool) (pages : Option ℕ) → query_by groups items filters (Some hash) None pages ≡ None
-no_workers None items filter hash pages = refl
-no_workers (Some g) None filter hash pages = refl
-no_workers (Some g) (Some i) None hash pages = refl
-no_workers (Some g) (Some i) (Some f) hash pages = refl
+  pub no_workers : (hash : Bool) (pages : Option ℕ) (reading : Option Reading) → query_by groups items filters (Some hash) None pages reading ≡ None
+  no_workers hash pages reading = by groups items filters
+    where
+      by : (g : Option (List (List ℕ))) (i : Option (List NamedItem)) (f : Option (List NamedFilter)) → query_by g i f (Some hash) None pages reading ≡ None
+      by None i f = refl
+      by (Some g) None f = refl
+      by (Some g) (Some i) None = refl
+      by (Some g) (Some i) (Some f) = refl
 
-pub no_pages : (groups : Option (List (List ℕ))) (items : Option (List NamedItem)) (filters : Option (List NamedFilter)) (hash : Bool) (workers : ℕ) → query_by groups items filters (Some hash) (Some workers) None ≡ None
-no_pages None items filter hash workers = refl
-no_pages (Some g) None filter hash workers = refl
-no_pages (Some g) (Some i) None hash workers = refl
-no_pages (Some g) (Some i) (Some f) hash workers = refl
+  pub no_pages : (hash : Bool) (workers : ℕ) (reading : Option Reading) → query_by groups items filters (Some hash) (Some workers) None reading ≡ None
+  no_pages hash workers reading = by groups items filters
+    where
+      by : (g : Option (List (List ℕ))) (i : Option (List NamedItem)) (f : Option (List NamedFilter)) → query_by g i f (Some hash) (Some workers) None reading ≡ None
+      by None i f = refl
+      by (Some g) None f = refl
+      by (Some g) (Some i) None = refl
+      by (Some g) (Some i) (Some f) = refl
+
+  pub no_reading : (hash : Bool) (workers pages : ℕ) → query_by groups items filters (Some hash) (Some workers) (Some pages) None ≡ None
+  no_reading hash workers pages = by groups items filters
+    where
+      by : (g : Option (List (List ℕ))) (i : Option (List NamedItem)) (f : Option (List NamedFilter)) → query_by g i f (Some hash) (Some workers) (Some pages) None ≡ None
+      by None i f = refl
+      by (Some g) None f = refl
+      by (Some g) (Some i) None = refl
+      by (Some g) (Some i) (Some f) = refl

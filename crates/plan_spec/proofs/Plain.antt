@@ -2,6 +2,7 @@
 use Rattle.std.proofs.Common.{◌≡◌, ◌∷◌, ◌∙◌, [], ℕ, ℤ, Bool, true, false, List, Option, Some, None, if◌then◌else◌, map, refl, sym, ap}
 use Rattle.std.specs.List.{before_first, position_or_len}
 use Rattle.std.specs.Prelude.{◌==◌, drop, option_and_then, option_map, option_to_list}
+use Rattle.csv_rows.specs.declared.cleaning.Reading.{Reading}
 use Rattle.par_model.specs.Named.{NamedFilter, NamedItem, NamedPlan, bound_filter, bound_plan}
 use Rattle.par_model.specs.Plain.{are_plain, is_plain, is_plain_named}
 use Rattle.par_model.specs.Refuse.{is_of_numbers}
@@ -50,17 +51,18 @@ plain_filters None fs e = ap (λ (fs : List NamedFilter). are_plain (map (λ f. 
 plain_filters (Some text) fs e = one_filter (filter_in false [] text) fs (number_filter [] text) e
 
 -- a query is as plain as its filters
-pub plain_query : (groups : Option (List (List ℕ))) (items : Option (List NamedItem)) (filters : Option (List NamedFilter)) (hash : Option Bool) (workers pages : Option ℕ) (q : Query)
+pub plain_query : (groups : Option (List (List ℕ))) (items : Option (List NamedItem)) (filters : Option (List NamedFilter)) (hash : Option Bool) (workers pages : Option ℕ) (reading : Option Reading) (q : Query)
     → ((fs : List NamedFilter) → filters ≡ Some fs → are_plain (map (λ f. f.test) fs) ≡ true)
-    → query_by groups items filters hash workers pages ≡ Some q → is_plain_named q.plan ≡ true
-plain_query None items filters hash workers pages q h e = cc e
-plain_query (Some g) None filters hash workers pages q h e = cc e
-plain_query (Some g) (Some i) None hash workers pages q h e = cc e
-plain_query (Some g) (Some i) (Some f) None workers pages q h e = cc e
-plain_query (Some g) (Some i) (Some f) (Some b) None pages q h e = cc e
-plain_query (Some g) (Some i) (Some f) (Some b) (Some w) None q h e = cc e
-plain_query (Some g) (Some i) (Some f) (Some b) (Some w) (Some p) q h e =
-    ap (λ (q : Query). is_plain_named q.plan) (sym (some_inj (record { plan = record { groups = g; items = i; hash = b; filters = f }; workers = w; area_pages = p }) q e)) ∙ h f refl
+    → query_by groups items filters hash workers pages reading ≡ Some q → is_plain_named q.plan ≡ true
+plain_query None items filters hash workers pages reading q h e = cc e
+plain_query (Some g) None filters hash workers pages reading q h e = cc e
+plain_query (Some g) (Some i) None hash workers pages reading q h e = cc e
+plain_query (Some g) (Some i) (Some f) None workers pages reading q h e = cc e
+plain_query (Some g) (Some i) (Some f) (Some b) None pages reading q h e = cc e
+plain_query (Some g) (Some i) (Some f) (Some b) (Some w) None reading q h e = cc e
+plain_query (Some g) (Some i) (Some f) (Some b) (Some w) (Some p) None q h e = cc e
+plain_query (Some g) (Some i) (Some f) (Some b) (Some w) (Some p) (Some r) q h e =
+    ap (λ (q : Query). is_plain_named q.plan) (sym (some_inj (record { plan = record { groups = g; items = i; hash = b; filters = f }; workers = w; area_pages = p; reading = r }) q e)) ∙ h f refl
 
 -- a plan over the columns of a header is as plain as the plan by names
 pub bound_tests : (header : List (List ℕ)) (filters : List NamedFilter) → map (λ filter. filter.test) (map (bound_filter header) filters) ≡ map (λ filter. filter.test) filters

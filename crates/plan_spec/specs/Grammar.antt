@@ -134,6 +134,20 @@ number_in most text =
 abbrev pub hash_in : List ℕ → Option Bool
 hash_in text = if bytes_eq text (codes "gather") then Some false else (if bytes_eq text (codes "hash") then Some true else None)
 
+-- a byte that may part fields: one of ASCII that is neither a quote nor ends a line
+abbrev pub is_separator : ℕ → Bool
+is_separator byte = nat_lt byte 128 && (not (byte == 34) && (not (byte == 13) && not (byte == 10)))
+
+-- the byte that parts fields: `tab`, or one such byte
+abbrev pub separator_in : List ℕ → Option ℕ
+separator_in text =
+    if bytes_eq text (codes "tab") then Some 9
+    else (if (length text == 1) && is_separator (slice_index text 0) then Some (slice_index text 0) else None)
+
+-- one to eight texts between commas, not too long together
+abbrev pub nulls_in : List ℕ → Option (List ℕ)
+nulls_in text = if nat_le (length (parts_of text)) 8 && nat_le (length text) LONGEST_TEXT then Some text else None
+
 -- how many places a column has, `price=2`, or any column, `2`
 abbrev pub entry_in : List ℕ → Option (Option (List ℕ) × ℕ)
 entry_in text =

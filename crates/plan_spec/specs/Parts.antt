@@ -1,5 +1,6 @@
 -- What the parts of a plan keep.
 use Rattle.std.specs.Prelude.{◌≡◌, ◌≤◌, ℕ, List, None, Option, is_some}
+use Rattle.csv_rows.specs.Readings.{IsSeparator}
 use Rattle.par_model.specs.Columns.{reads_column}
 use Rattle.par_model.specs.Table.{item_text}
 use Rattle.par_model.specs.declared.plan.ItemKind.{ItemKind}
@@ -14,12 +15,13 @@ pub record IsItem (kind : ItemKind) (column : Option (List ℕ)) (places : ℕ) 
   pub bare : column ≡ None → places ≡ 0
   pub few : places ≤ MOST_PLACES
 
--- at most eight columns to group by, one to eight aggregates, at most eight filters, and no more workers and pages than words
--- may ask for
-pub record FitsLimits (groups items filters workers pages : ℕ) : Type 0 where
+-- at most eight columns to group by, one to eight aggregates, at most eight filters, no more workers and pages than words may
+-- ask for, and a separator that may be one
+pub record FitsLimits (groups items filters workers pages separator : ℕ) : Type 0 where
   pub groups_fit : groups ≤ 8
   pub some_item : 1 ≤ items
   pub items_fit : items ≤ 8
   pub filters_fit : filters ≤ 8
   pub workers_fit : workers ≤ MOST_WORKERS
   pub pages_fit : pages ≤ MOST_AREA_PAGES
+  pub separator_fits : IsSeparator separator

@@ -2,11 +2,12 @@
 //! numbers of a column have.
 
 ghost use Rattle.std.specs.Prelude.{◌≡◌, ◌==◌, ◌≤◌, None, Some, All, IfOk, IfSome, IsTrue, bytes_eq, length, map, option_map, string_bytes, true, vec_len};
-ghost use Rattle.std.specs.List.{list_any, position_or_len};
+ghost use Rattle.std.specs.List.{count_by, list_any, position_or_len};
 ghost use Rattle.std.specs.Option.{option_map_or};
 ghost use Rattle.par_model.specs.Columns.{reads_column};
 ghost use Rattle.par_model.specs.Table.{kind_text};
-ghost use Rattle.plan_spec.specs.Grammar.{Places, bare_number_in, entry_in, filter_in, filter_over, filters_in, hash_in, is_relation_byte, item_in, item_over, items_in, kind_in, names_in, number_in, parts_of, places_in, places_of, relation_in, short_text_in, test_in, text_in, text_test};
+ghost use Rattle.plan_spec.specs.Grammar.{Places, bare_number_in, entry_in, filter_in, filter_over, filters_in, hash_in, is_relation_byte, is_separator, item_in, item_over, items_in, kind_in, names_in, nulls_in, number_in, parts_of, places_in, places_of, relation_in, separator_in, short_text_in, test_in, text_in, text_test};
+ghost use Rattle.csv_rows.specs.Readings.{IsSeparator};
 ghost use Rattle.plan_spec.specs.Given.{entry_of};
 ghost use Rattle.plan_spec.specs.declared.plan.PlanAnswer.TheVariants as answer;
 
@@ -425,6 +426,45 @@ pub fn number(text: &str, most: u32) -> Option<u32>
         value = value * 10 + u32::from(*digit - b'0');
     }
     (value <= most).then_some(value)
+}
+
+/// The byte that parts fields: one character of ASCII that is no quote and ends no line, or `tab`.
+pub(crate) fn separator(text: &str) -> Option<u8>
+    ensures byte { result ≡ separator_in text.now }
+    ensures fits { IfSome result IsSeparator }
+{
+    if text == "tab" {
+        return Some(b'\t');
+    }
+    match text.as_bytes() {
+        [byte] if is_separator(*byte) => Some(*byte),
+        _ => None,
+    }
+}
+
+/// Whether a byte may part fields.
+fn is_separator(byte: u8) -> bool
+    ensures is { result ≡ is_separator byte }
+    ensures fits { result ≡ true → IsSeparator byte }
+{
+    byte < 128 && byte != b'"' && byte != b'\r' && byte != b'\n'
+}
+
+/// One to eight texts between commas, not too long together.
+pub(crate) fn nulls(text: &str) -> Option<Text>
+    ensures { result ≡ nulls_in text.now }
+{
+    let bytes = text.as_bytes();
+    if count_commas(bytes) > 7 {
+        return None;
+    }
+    Text::of(bytes)
+}
+
+fn count_commas(bytes: &[u8]) -> usize
+    ensures { result ≡ count_by (λ byte. byte == 44) bytes.now }
+{
+    bytes.iter().filter(|byte| **byte == b',').count()
 }
 
 /// Whether a plan is the one over the shared hash table.

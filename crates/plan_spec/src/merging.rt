@@ -7,6 +7,7 @@ ghost use Rattle.plan_spec.specs.declared.plan.PlanAnswer.TheVariants as answer;
 
 use crate::grammar::{names, number, row_count};
 use crate::plan::{MOST_WORKERS, Plan, PlanAnswer, PlanItem};
+use csv_rows::Reading;
 use std::alloc::{AllocError, Global};
 
 /// Whether words begin with `merge`.
@@ -55,6 +56,7 @@ fn merge_plan(alloc: Global, columns: &str, workers: &str) -> Result<Plan, PlanA
         hash: false,
         workers,
         area_pages: 0,
+        reading: Reading::plain(),
     })
 }
 

@@ -3,9 +3,10 @@
 //! `clap` states what its parse gives as a function of the command and the words, so which words are a command line,
 //! and what each option was given, is said only in terms of that function.
 
-ghost use Rattle.std.specs.Prelude.{◌≡◌, IfOk, None, OnOk, codes, map, option_map, option_to_list, false, true, string_bytes};
+ghost use Rattle.std.specs.Prelude.{◌≡◌, IfOk, None, OnOk, bytes_eq, codes, map, option_map, option_to_list, false, true, string_bytes};
+ghost use Rattle.std.specs.Option.{option_map_or};
 ghost use Rattle.clap.specs.Words.{app_of, found_of, is_simple_and_free, matches_of, rows_of, with_rule};
-ghost use Rattle.plan_spec.specs.Options.{is_command_line, option_of, pargather_command, parstream_command, repeated_of, value_of, values_of};
+ghost use Rattle.plan_spec.specs.Options.{asking_command, flag_in, flag_of, is_command_line, option_of, pargather_command, parstream_command, reading_command, value_of, values_of};
 ghost use Rattle.plan_spec.specs.declared.plan.PlanAnswer.TheVariants as answer;
 
 use crate::PlanAnswer;
@@ -23,6 +24,10 @@ pub(crate) struct OptionValues<'a> {
     /// Whether a filter may compare texts.
     pub(crate) texts: bool,
     pub(crate) decimals: Option<&'a str>,
+    pub(crate) separator: Option<&'a str>,
+    pub(crate) nulls: Option<&'a str>,
+    /// Whether `--trim` is given.
+    pub(crate) trim: bool,
     pub(crate) workers: Option<&'a str>,
     pub(crate) plan: Option<&'a str>,
     pub(crate) area_pages: Option<&'a str>,
@@ -39,6 +44,7 @@ pub(crate) fn option_values<'a>(
     ensures filters { IfOk result (λ g. map (λ s. s.now) g.filters.items ≡ option_to_list (value_of pargather_command (codes "where") (map string_bytes words.entry.now))) }
     ensures texts { IfOk result (λ g. g.texts ≡ false) }
     ensures decimals { IfOk result (λ g. g.decimals ≡ None) }
+    ensures reading { IfOk result (λ g. (g.separator ≡ None) × (g.nulls ≡ None) × (g.trim ≡ false)) }
     ensures workers { IfOk result (λ g. option_map (λ s. s.now) g.workers ≡ value_of pargather_command (codes "workers") (map string_bytes words.entry.now)) }
     ensures plan { IfOk result (λ g. option_map (λ s. s.now) g.plan ≡ value_of pargather_command (codes "plan") (map string_bytes words.entry.now)) }
     ensures area_pages { IfOk result (λ g. option_map (λ s. s.now) g.area_pages ≡ value_of pargather_command (codes "area-pages") (map string_bytes words.entry.now)) }
@@ -57,6 +63,9 @@ pub(crate) fn option_values<'a>(
         filters,
         texts: false,
         decimals: None,
+        separator: None,
+        nulls: None,
+        trim: false,
         workers: matches.get_str("workers"),
         plan: matches.get_str("plan"),
         area_pages: matches.get_str("area-pages"),
@@ -75,6 +84,9 @@ pub(crate) fn stream_values<'a>(
     ensures texts { IfOk result (λ g. g.texts ≡ true) }
     ensures decimals { IfOk result (λ g. option_map (λ s. s.now) g.decimals ≡ value_of parstream_command (codes "decimals") (map string_bytes words.entry.now)) }
     ensures workers { IfOk result (λ g. option_map (λ s. s.now) g.workers ≡ value_of parstream_command (codes "workers") (map string_bytes words.entry.now)) }
+    ensures separator { IfOk result (λ g. option_map (λ s. s.now) g.separator ≡ value_of parstream_command (codes "separator") (map string_bytes words.entry.now)) }
+    ensures nulls { IfOk result (λ g. option_map (λ s. s.now) g.nulls ≡ value_of parstream_command (codes "null") (map string_bytes words.entry.now)) }
+    ensures trim { IfOk result (λ g. g.trim ≡ flag_in parstream_command (codes "trim") (map string_bytes words.entry.now)) }
     ensures plan { IfOk result (λ g. (g.plan ≡ None) × (g.area_pages ≡ None)) }
     ensures refuses { result ≡ Err answer.Usage → is_command_line parstream_command (map string_bytes words.entry.now) ≡ false }
 {
@@ -91,10 +103,23 @@ pub(crate) fn stream_values<'a>(
         filters,
         texts: true,
         decimals: matches.get_str("decimals"),
+        separator: matches.get_str("separator"),
+        nulls: matches.get_str("null"),
+        trim: is_true(matches.get_str("trim")),
         workers: matches.get_str("workers"),
         plan: None,
         area_pages: None,
     })
+}
+
+/// Whether the value of an option that takes none says that it is given.
+fn is_true(value: Option<&str>) -> bool
+    ensures { result ≡ option_map_or (bytes_eq (codes "true")) (option_map (λ s. s.now) value.entry) false }
+{
+    match value {
+        Some(text) => text == "true",
+        None => false,
+    }
 }
 
 /// The list of a value, if there is one.
@@ -142,9 +167,17 @@ fn pargather<'a>(alloc: Global) -> Result<Command<'a>, AllocError>
     with_option(alloc, planned, "area-pages", false)
 }
 
-/// The command of parstream with its five options, of which `--where` may be repeated.
+/// The command of parstream with its eight options, of which `--where` may be repeated and `--trim` takes no value.
 fn parstream<'a>(alloc: Global) -> Result<Command<'a>, AllocError>
     ensures { IfOk result (λ c. app_of c ≡ parstream_command) }
+{
+    let asking = asking_options(alloc)?;
+    with_reading(alloc, asking)
+}
+
+/// Those that say what is asked of the rows, and by how many workers.
+fn asking_options<'a>(alloc: Global) -> Result<Command<'a>, AllocError>
+    ensures { IfOk result (λ c. app_of c ≡ asking_command) }
 {
     let bare = Command::new(alloc, "parstream").no_binary_name(true);
     let grouped = with_option(alloc, bare, "group", false)?;
@@ -156,6 +189,26 @@ fn parstream<'a>(alloc: Global) -> Result<Command<'a>, AllocError>
     )?;
     let staffed = with_option(alloc, filtered, "workers", false)?;
     with_option(alloc, staffed, "decimals", false)
+}
+
+/// A command with those that say how fields are read.
+fn with_reading<'a>(alloc: Global, command: Command<'a>) -> Result<Command<'a>, AllocError>
+    ensures { IfOk result (λ c. app_of c ≡ reading_command (app_of command.entry)) }
+{
+    let parted = with_option(alloc, command, "separator", false)?;
+    let emptied = with_option(alloc, parted, "null", false)?;
+    with_flag(alloc, emptied, "trim")
+}
+
+/// A command with one more option, which takes no value.
+fn with_flag<'a>(
+    alloc: Global,
+    command: Command<'a>,
+    name: &'a str,
+) -> Result<Command<'a>, AllocError>
+    ensures { IfOk result (λ c. app_of c ≡ with_rule (app_of command.entry) (flag_of name.entry.now)) }
+{
+    command.arg(Arg::new(alloc, name).long(name).action(ArgAction::SetTrue))
 }
 
 /// A command with one more option, which takes one value.

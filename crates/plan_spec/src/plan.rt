@@ -2,10 +2,12 @@
 
 ghost use Rattle.std.specs.Prelude.{◌≡◌, ◌<◌, ◌≤◌, ◌++◌, [], IfSome, filter_map, is_some, length, map, option_and_then, option_map, slice_get, slice_index_or};
 ghost use Rattle.std.specs.Option.{option_map_or};
+ghost use Rattle.csv_rows.specs.Readings.{IsSeparator};
 ghost use Rattle.par_model.specs.Columns.{reads_column};
 ghost use Rattle.par_model.specs.Named.{names_of};
 ghost use Rattle.par_model.specs.Table.{item_text};
 
+use csv_rows::Reading;
 use par_model::{FilterTest, ItemKind};
 use std::marker::Model;
 
@@ -82,6 +84,8 @@ pub struct Plan {
     pub(crate) workers: u32,
     /// The pages of that table's area, [`MOST_AREA_PAGES`] at most.
     pub(crate) area_pages: u32,
+    /// How the fields of the input are read.
+    pub(crate) reading: Reading,
 }
 
 impl Model for Plan {
@@ -91,9 +95,9 @@ impl Model for Plan {
 
     ghost Value = { Query };
 
-    ghost view = { λ p. record { plan = record { groups = map string_bytes p.groups.items; items = p.items.items; hash = p.hash; filters = p.filters.items }; workers = p.workers; area_pages = p.area_pages } };
+    ghost view = { λ p. record { plan = record { groups = map string_bytes p.groups.items; items = p.items.items; hash = p.hash; filters = p.filters.items }; workers = p.workers; area_pages = p.area_pages; reading = p.reading } };
 
-    ghost invariant = { λ p. FitsLimits (length p.groups.items) (length p.items.items) (length p.filters.items) p.workers p.area_pages };
+    ghost invariant = { λ p. FitsLimits (length p.groups.items) (length p.items.items) (length p.filters.items) p.workers p.area_pages p.reading.separator };
 }
 
 impl Plan {
@@ -111,6 +115,14 @@ impl Plan {
         ensures within { result ≤ MOST_AREA_PAGES }
     {
         self.area_pages
+    }
+
+    /// How the fields of the input are read.
+    pub fn reading(&self) -> &Reading
+        ensures value { result.now ≡ self.now.reading }
+        ensures separator { IsSeparator result.now.separator }
+    {
+        &self.reading
     }
 
     /// A name of the plan: names are counted through the columns to group by, the aggregates that

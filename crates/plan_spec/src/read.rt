@@ -2,15 +2,20 @@
 
 ghost use Rattle.std.specs.Prelude.{◌≡◌, ◌≤◌, None, Some, All, IfOk, map, string_bytes, true, vec_len};
 ghost use Rattle.par_model.specs.Plain.{is_plain_named};
-ghost use Rattle.plan_spec.specs.Query.{groups_given, hash_given, items_given, number_given, places_given, query_of, stream_query_of, text_of};
-ghost use Rattle.plan_spec.specs.Given.{entry_of, query_given};
+ghost use Rattle.csv_rows.specs.Readings.{IsSeparator};
+ghost use Rattle.plan_spec.specs.Query.{groups_given, hash_given, items_given, nulls_given, number_given, places_given, query_of, separator_given, stream_query_of, text_of};
+ghost use Rattle.plan_spec.specs.Given.{entry_of, query_given, reading_of};
 ghost use Rattle.plan_spec.specs.Grammar.{filters_in};
 ghost use Rattle.par_model.specs.declared.plan.TheConstants.{MOST_PLACES};
 ghost use Rattle.plan_spec.specs.declared.plan.PlanAnswer.TheVariants as answer;
 
-use crate::grammar::{MOST_NUMBER, PlacesOf, filters, hash, items, names, number, places};
+use crate::grammar::{
+    MOST_NUMBER, PlacesOf, filters, hash, items, names, nulls, number, places, separator,
+};
 use crate::options::{OptionValues, option_values, stream_values};
 use crate::plan::{MOST_AREA_PAGES, MOST_WORKERS, Plan, PlanAnswer, PlanItem};
+use csv_rows::Reading;
+use par_model::Text;
 use std::alloc::Global;
 
 /// The number of workers if the words ask for none.
@@ -35,7 +40,8 @@ impl Plan {
     }
 
     /// The plan of the words after parstream's name: a simple command with the options `--group`, `--agg` (required),
-    /// `--where`, which may be repeated, `--workers` and `--decimals`. It uses no shared table, and names the default number of pages for one.
+    /// `--where`, which may be repeated, `--workers`, `--decimals`, `--separator`, `--null` and `--trim`, which takes no value. It
+    /// uses no shared table, and names the default number of pages for one.
     pub fn of_stream_words(alloc: Global, words: &[String]) -> Result<Plan, PlanAnswer>
         ensures plan { IfOk result (λ plan. stream_query_of (map string_bytes words.now) ≡ Some plan) }
         ensures usage { result ≡ Err answer.Usage → stream_query_of (map string_bytes words.now) ≡ None }
@@ -55,6 +61,7 @@ fn read_values(alloc: Global, given: &OptionValues<'_>) -> Result<Plan, PlanAnsw
     let hash = hash_read(given.plan)?;
     let workers = number_read(given.workers, MOST_WORKERS, WORKERS)?;
     let area_pages = number_read(given.area_pages, MOST_AREA_PAGES, AREA_PAGES)?;
+    let reading = reading_read(given)?;
     let places = places_read(alloc, given.decimals)?;
     let filters = filters(alloc, &places, given.filters.as_slice(), given.texts)?;
     let groups = groups_read(alloc, given.group)?;
@@ -66,7 +73,44 @@ fn read_values(alloc: Global, given: &OptionValues<'_>) -> Result<Plan, PlanAnsw
         hash,
         workers,
         area_pages,
+        reading,
     })
+}
+
+/// How the fields of the input are read.
+fn reading_read(given: &OptionValues<'_>) -> Result<Reading, PlanAnswer>
+    ensures reading { IfOk result (λ r. reading_of given.now ≡ Some r) }
+    ensures separator { IfOk result (λ r. IsSeparator r.separator) }
+    ensures none { result ≡ Err answer.Usage → reading_of given.now ≡ None }
+{
+    let separator = separator_read(given.separator)?;
+    let nulls = nulls_read(given.nulls)?;
+    Ok(Reading {
+        separator,
+        trim: given.trim,
+        nulls,
+    })
+}
+
+fn separator_read(given: Option<&str>) -> Result<u8, PlanAnswer>
+    ensures byte { IfOk result (λ byte. separator_given (text_of given.entry) ≡ Some byte) }
+    ensures fits { IfOk result IsSeparator }
+    ensures none { result ≡ Err answer.Usage → separator_given (text_of given.entry) ≡ None }
+{
+    match given {
+        Some(text) => separator(text).ok_or(PlanAnswer::Usage),
+        None => Ok(b','),
+    }
+}
+
+fn nulls_read(given: Option<&str>) -> Result<Text, PlanAnswer>
+    ensures texts { IfOk result (λ text. nulls_given (text_of given.entry) ≡ Some text) }
+    ensures none { result ≡ Err answer.Usage → nulls_given (text_of given.entry) ≡ None }
+{
+    match given {
+        Some(text) => nulls(text).ok_or(PlanAnswer::Usage),
+        None => Ok(Reading::plain().nulls),
+    }
 }
 
 fn places_read<'a>(alloc: Global, given: Option<&'a str>) -> Result<Vec<PlacesOf<'a>>, PlanAnswer>

@@ -11,6 +11,7 @@ ghost use Rattle.row_windows.specs.declared.window.WindowAnswer.TheVariants as a
 
 use crate::cut::cut_in;
 use crate::read::read_to;
+use csv_rows::Reading;
 use par_io::Source;
 use std::alloc::{AllocError, Global};
 use std::marker::Model;
@@ -33,10 +34,11 @@ enum Found {
     NoCut,
 }
 
-/// The line of the header, whole lines, and the rest that was read behind them. The buffer is kept from one filling to
-/// the next, with all of its room.
+/// The line of the header, whole lines, and the rest that was read behind them; and how the fields of its table are read,
+/// which changes nothing here. The buffer is kept from one filling to the next, with all of its room.
 #[derive(Drop)]
 pub struct Window {
+    reading: Reading,
     text: Vec<u8>,
     /// Where the line of the header ends.
     header: usize,
@@ -51,19 +53,21 @@ impl Model for Window {
 
     ghost Value = { Stretch };
 
-    ghost view = { λ w. stretch_of w.text.items w.header w.end w.filled };
+    ghost view = { λ w. stretch_of w.reading w.text.items w.header w.end w.filled };
 
     ghost invariant = { λ w. IsWindow w.text.items w.header w.end w.filled };
 }
 
 impl Window {
-    /// A window of no bytes; takes no memory.
-    pub fn new(alloc: Global) -> Window
+    /// A window of no bytes, with the reading of its table; takes no memory.
+    pub fn new(alloc: Global, reading: &Reading) -> Window
+        ensures reading { result.reading ≡ reading.now }
         ensures header { result.header ≡ [] }
         ensures lines { result.lines ≡ [] }
         ensures rest { result.rest ≡ [] }
     {
         Window {
+            reading: *reading,
             text: Vec::new(alloc),
             header: 0,
             end: 0,
@@ -72,12 +76,14 @@ impl Window {
     }
 
     /// Makes this window begin as the one behind another: with its header, and its rest as what was read so far. Copies
-    /// both, which are short. On `Err` it has no bytes.
+    /// both, which are short. Its table is read likewise. On `Err` it has no bytes.
     pub fn follow(&mut self, before: &Window) -> Result<(), AllocError>
+        ensures reading { OnOk result (self.new.reading ≡ before.now.reading) }
         ensures header { OnOk result (self.new.header ≡ before.now.header) }
         ensures lines { OnOk result (self.new.lines ≡ []) }
         ensures rest { OnOk result (self.new.rest ≡ before.now.rest) }
     {
+        self.reading = before.reading;
         self.header = 0;
         self.end = 0;
         self.filled = 0;
@@ -99,6 +105,7 @@ impl Window {
     /// the memory, at most twice the bytes.
     pub fn fill<S: Source>(&mut self, source: &mut S, size: usize) -> Result<bool, WindowAnswer>
         requires { self.old.lines ≡ [] }
+        ensures reading { OnOk result (self.new.reading ≡ self.old.reading) }
         ensures header { OnOk result (self.new.header ≡ self.old.header) }
         ensures reads { OnOk result (Fills (S.left source.old) (S.left source.new) self.old.rest (self.new.lines ++ self.new.rest)) }
         ensures last { IfOk result (λ last. last ≡ true → (self.new.rest ≡ []) × IsAtEnd (S.left source.new)) }
@@ -139,6 +146,7 @@ impl Window {
     ) -> Result<Found, WindowAnswer>
         requires lines { self.old.lines ≡ [] }
         requires goal { goal ≤ MOST_RECORD_BYTES + 1 }
+        ensures reading { OnOk result (self.new.reading ≡ self.old.reading) }
         ensures header { OnOk result (self.new.header ≡ self.old.header) }
         ensures reads { OnOk result (Fills (S.left source.old) (S.left source.new) self.old.rest (self.new.lines ++ self.new.rest)) }
         ensures last { IfOk result (λ r. r ≡ found.Lines true → (self.new.rest ≡ []) × IsAtEnd (S.left source.new)) }
@@ -172,11 +180,19 @@ impl Window {
     pub fn set_header(&mut self, at: usize)
         requires none { self.old.header ≡ [] }
         requires within { at ≤ length self.old.lines }
+        ensures reading { self.new.reading ≡ self.old.reading }
         ensures header { self.new.header ≡ take at self.old.lines }
         ensures lines { self.new.lines ≡ drop at self.old.lines }
         ensures rest { self.new.rest ≡ self.old.rest }
     {
         self.header = at;
+    }
+
+    /// How the fields of its table are read.
+    pub fn reading(&self) -> &Reading
+        ensures { result.now ≡ self.now.reading }
+    {
+        &self.reading
     }
 
     /// How many bytes its buffer has.

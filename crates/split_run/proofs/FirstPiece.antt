@@ -4,7 +4,9 @@ use Rattle.std.proofs.lemmas.List.{drop_more, get_or-append-add, get_or_append_l
 use Rattle.std.proofs.lemmas.Grind.{get_or_after_one}
 use Rattle.std.proofs.lemmas.List.Concat.{flat_map-append}
 use Rattle.std.proofs.lemmas.List.Elements.{All-append, All-cons, All-head, All-nil, All-push, All-same, All-tail}
+use Rattle.csv_rows.specs.Readings.{records_as}
 use Rattle.csv_rows.specs.Records.{record_at}
+use Rattle.csv_rows.specs.declared.cleaning.Reading.{Reading}
 use Rattle.par_model.specs.Plan.{Plan}
 use Rattle.par_model.specs.Refuse.{refusal}
 use Rattle.par_model.specs.declared.refusal.Refusal.{Refusal}
@@ -14,6 +16,10 @@ use Rattle.row_windows.specs.Stretch.{Stretch}
 use Rattle.gather_law.specs.Shares.{together}
 use Rattle.split_run.specs.Causes.{AllAccepted, IsFirstRefused}
 use Rattle.split_run.specs.Pieces.{AreUnder, piece_records, piece_rows, rows_of}
+
+-- what is read of a piece by its reading are its records
+pub read_piece : (p : Stretch) (reading : Reading) (text : List ℕ) → reading ≡ p.reading → text ≡ p.header ++ p.lines → records_as reading text ≡ piece_records p
+read_piece p reading text by whole = ap (records_as reading) whole ∙ ap (λ (r : Reading). records_as r (p.header ++ p.lines)) by
 
 take_front : (ws more : Table) (k : ℕ) → k ≤ length ws → take k (ws ++ more) ≡ take k ws
 take_front [] more zero h = refl

@@ -1,6 +1,6 @@
 -- The pieces of a batch: windows that each begin with the header's line.
 use Rattle.std.specs.Prelude.{◌≡◌, ◌++◌, ◌+◌, ◌<◌, ◌^◌, ◌∷◌, ℕ, List, All, drop, length, map}
-use Rattle.csv_rows.specs.Records.{records_of}
+use Rattle.csv_rows.specs.Readings.{records_as}
 use Rattle.par_model.specs.Columns.{HasColumns}
 use Rattle.par_model.specs.Plan.{Plan}
 use Rattle.partial_agg.specs.Groups.{GroupsByKey}
@@ -11,7 +11,7 @@ use Rattle.gather_law.specs.Shares.{AreShared, rows_at, together}
 
 -- the records of a piece, of which the first is that of the header
 abbrev pub piece_records : Stretch → Table
-piece_records piece = records_of (piece.header ++ piece.lines)
+piece_records piece = records_as piece.reading (piece.header ++ piece.lines)
 
 -- the others
 abbrev pub piece_rows : Stretch → Table

@@ -7,7 +7,7 @@ ghost use Rattle.partial_agg.specs.Rows.{IsAccepted, header_width};
 ghost use Rattle.split_run.specs.Causes.{IsCause};
 ghost use Rattle.split_run.specs.Pieces.{piece_records, piece_rows};
 
-use csv_rows::{RowStore, rows};
+use csv_rows::{RowStore, rows_as};
 use par_model::BoundPlan;
 use partial_agg::{BlockAnswer, GroupMap};
 use row_blocks::count_blocks;
@@ -27,7 +27,7 @@ pub(crate) fn add_piece(
     ensures count { IfOk result (λ count. count ≡ length (piece_rows piece.now)) }
     ensures refused { IfErr result (IsCause plan.now (piece_records piece.now)) }
 {
-    let Ok(store) = rows(alloc, piece.table()) else {
+    let Ok(store) = rows_as(alloc, piece.reading(), piece.table()) else {
         return Err(BlockAnswer::Memory);
     };
     match add_store(&store, plan, groups) {

@@ -6,7 +6,7 @@ ghost use Rattle.partial_agg.specs.Rows.{IsAccepted, header_width};
 ghost use Rattle.split_run.specs.Causes.{AllAccepted, IsFirstOfAll, IsFirstRefused, IsLow, SomeRefused};
 ghost use Rattle.split_run.specs.Pieces.{HaveColumns};
 
-use csv_rows::{RowStore, rows};
+use csv_rows::{RowStore, rows_as};
 use par_model::{BoundPlan, Refusal};
 use partial_agg::{BlockAnswer, refusal};
 use row_windows::Window;
@@ -43,7 +43,7 @@ fn first_in_pieces(alloc: Global, pieces: &[Window], plan: &BoundPlan) -> BlockA
 {
     let mut before = 0u64;
     for piece in pieces {
-        let Ok(store) = rows(alloc, piece.table()) else {
+        let Ok(store) = rows_as(alloc, piece.reading(), piece.table()) else {
             return BlockAnswer::Memory;
         };
         match first_refused(&store, plan) {

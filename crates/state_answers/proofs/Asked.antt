@@ -5,10 +5,11 @@ use Rattle.std.specs.List.{flat_map}
 use Rattle.std.proofs.lemmas.Bool.{leb-true}
 use Rattle.std.proofs.lemmas.List.{length-map}
 use Rattle.std.proofs.lemmas.List.Elements.{All-head, All-tail}
+use Rattle.csv_rows.specs.declared.cleaning.Reading.{Reading}
 use Rattle.par_model.specs.Named.{NamedFilter, NamedItem}
 use Rattle.plan_spec.specs.Grammar.{Places, all_some, filters_in, item_in, items_in, parts_of}
-use Rattle.plan_spec.specs.Options.{is_command_line, parstream_command, value_of, values_of}
-use Rattle.plan_spec.specs.Query.{Query, groups_given, items_given, number_given, places_given, query_by, stream_query_of}
+use Rattle.plan_spec.specs.Options.{flag_in, is_command_line, parstream_command, value_of, values_of}
+use Rattle.plan_spec.specs.Query.{Query, groups_given, items_given, number_given, places_given, query_by, reading_given, stream_query_of}
 use Rattle.state_file.specs.Text.{text_bytes}
 use Rattle.state_head.specs.Words.{Words}
 use Rattle.state_plan.specs.FilePlans.{AskFor}
@@ -76,24 +77,26 @@ given_few places (Some text) items e = items_few places text items e
 abbrev HasFew : Query → Type 0
 HasFew q = length q.plan.items ≤ 8
 
-by_few : (g : Option (List (List ℕ))) (i : Option (List NamedItem)) (f : Option (List NamedFilter)) (h : Option Bool) (w p : Option ℕ) (q : Query) → ((items : List NamedItem) → i ≡ Some items → length items ≤ 8) → query_by g i f h w p ≡ Some q → HasFew q
-by_few None i f h w p q few e = cc
-by_few (Some g) None f h w p q few e = cc
-by_few (Some g) (Some i) None h w p q few e = cc
-by_few (Some g) (Some i) (Some f) None w p q few e = cc
-by_few (Some g) (Some i) (Some f) (Some h) None p q few e = cc
-by_few (Some g) (Some i) (Some f) (Some h) (Some w) None q few e = cc
-by_few (Some g) (Some i) (Some f) (Some h) (Some w) (Some p) q few e =
-    subst HasFew (some_is (record { plan = record { groups = g; items = i; hash = h; filters = f }; workers = w; area_pages = p }) q e) (few i refl)
+by_few : (g : Option (List (List ℕ))) (i : Option (List NamedItem)) (f : Option (List NamedFilter)) (h : Option Bool) (w p : Option ℕ) (r : Option Reading) (q : Query) → ((items : List NamedItem) → i ≡ Some items → length items ≤ 8) → query_by g i f h w p r ≡ Some q → HasFew q
+by_few None i f h w p r q few e = cc
+by_few (Some g) None f h w p r q few e = cc
+by_few (Some g) (Some i) None h w p r q few e = cc
+by_few (Some g) (Some i) (Some f) None w p r q few e = cc
+by_few (Some g) (Some i) (Some f) (Some h) None p r q few e = cc
+by_few (Some g) (Some i) (Some f) (Some h) (Some w) None r q few e = cc
+by_few (Some g) (Some i) (Some f) (Some h) (Some w) (Some p) None q few e = cc
+by_few (Some g) (Some i) (Some f) (Some h) (Some w) (Some p) (Some r) q few e =
+    subst HasFew (some_is (record { plan = record { groups = g; items = i; hash = h; filters = f }; workers = w; area_pages = p; reading = r }) q e) (few i refl)
 
-few_by : (line : Bool) (g : Option (List (List ℕ))) (agg : Option (List ℕ)) (f : Places → Option (List NamedFilter)) (h : Option Bool) (w p : Option ℕ) (places : Option Places) (q : Query)
-    → cond line (option_and_then (λ (places : Places). query_by g (items_given places agg) (f places) h w p) places) None ≡ Some q → HasFew q
-few_by true g agg f h w p None q e = cc
-few_by true g agg f h w p (Some places) q e = by_few g (items_given places agg) (f places) h w p q (λ items is. given_few places agg items is) e
-few_by false g agg f h w p places q e = cc
+few_by : (line : Bool) (g : Option (List (List ℕ))) (agg : Option (List ℕ)) (f : Places → Option (List NamedFilter)) (h : Option Bool) (w p : Option ℕ) (r : Option Reading) (places : Option Places) (q : Query)
+    → cond line (option_and_then (λ (places : Places). query_by g (items_given places agg) (f places) h w p r) places) None ≡ Some q → HasFew q
+few_by true g agg f h w p r None q e = cc
+few_by true g agg f h w p r (Some places) q e = by_few g (items_given places agg) (f places) h w p r q (λ items is. given_few places agg items is) e
+few_by false g agg f h w p r places q e = cc
 
 pub few_items : (words : Words) (query : Query) → AskFor words query → HasFew query
 unfolding stream_query_of
 few_items words query a =
     few_by (is_command_line parstream_command a.command) (groups_given (value_of parstream_command (codes "group") a.command)) (value_of parstream_command (codes "agg") a.command)
-    (λ (places : Places). filters_in true places (values_of parstream_command (codes "where") a.command)) (Some false) (number_given 64 2 (value_of parstream_command (codes "workers") a.command)) (Some 2048) (places_given (value_of parstream_command (codes "decimals") a.command)) query a.asks
+    (λ (places : Places). filters_in true places (values_of parstream_command (codes "where") a.command)) (Some false) (number_given 64 2 (value_of parstream_command (codes "workers") a.command)) (Some 2048)
+    (reading_given (value_of parstream_command (codes "separator") a.command) (flag_in parstream_command (codes "trim") a.command) (value_of parstream_command (codes "null") a.command)) (places_given (value_of parstream_command (codes "decimals") a.command)) query a.asks

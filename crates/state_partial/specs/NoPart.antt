@@ -3,14 +3,18 @@ use Rattle.std.specs.Prelude.{◌≡◌, ◌<◌, ◌⊎◌, ℕ, List, IfSome, 
 use Rattle.answer_text.specs.declared.status.TheConstants.{MISUSED, READ_FAULT, TOO_LARGE}
 use Rattle.plan_spec.specs.Query.{Query}
 use Rattle.state_plan.specs.FilePlans.{AskFor, HaveNoQuery}
+<<<<<<< ours
 use Rattle.state_plan.specs.declared.file_plan.PlanFault.TheVariants as fault
 use Rattle.state_partial.specs.Places.{AreLeft, IsLonger}
+=======
+>>>>>>> theirs
 use Rattle.state_partial.specs.Words.{Asked, asked_in}
 use Rattle.state_partial.specs.declared.no_part.NoPart.{NoPart}
 use Rattle.state_partial.specs.declared.no_part.NoPart.TheVariants as no_part
 use Rattle.state_partial.specs.declared.words.Extent.{Extent}
 use Rattle.state_partial.specs.declared.words.Extent.TheVariants as extent
 use Rattle.stream_groups.specs.Stops.{Tells, stop_says}
+use Rattle.stream_groups.specs.Ways.{of_bytes}
 use Rattle.stream_groups.specs.declared.stop.Stop.{Stop}
 use Rattle.stream_groups.specs.declared.stop.Stop.TheVariants as stop
 use Rattle.stream_groups.specs.declared.stop.TheConstants.{LONG_RECORD}
@@ -43,7 +47,7 @@ part_of_tile no.Memory = no_part.Stopped stop.Memory
 
 -- words ask for no part, or for one of no plan
 abbrev pub AskForNone : List (List ℕ) → Type 0
-AskForNone words = (asked_in words ≡ None) ⊎ ((asked : Asked) × (asked_in words ≡ Some asked) × HaveNoQuery asked.words fault.Words)
+AskForNone words = (asked_in words ≡ None) ⊎ ((asked : Asked) × (asked_in words ≡ Some asked) × HaveNoQuery asked.words)
 
 -- ---- what is so of a tile
 
@@ -78,9 +82,13 @@ pub record TellsOfPart (words : List (List ℕ)) (left : Option (List ℕ)) (why
   pub is_asked : asked_in words ≡ Some asked
   pub query : Query
   pub ask_for : AskFor asked.words query
+<<<<<<< ours
   pub read : Option (List ℕ)
   pub are_left : AreLeft asked.extent left read
   pub tells : Tells query read why
+=======
+  pub tells : Tells (of_bytes query.reading) query left why
+>>>>>>> theirs
 
 -- why the reading or the writing ended: a refused row is no reason
 abbrev pub IsStopOf : List (List ℕ) → Option (List ℕ) → Stop → Type 0

@@ -12,7 +12,6 @@ ghost use Rattle.state_partial.specs.Words.{asked_in, asked_of, words_after};
 ghost use Rattle.state_partial.specs.declared.no_part.NoPart.{NoPart};
 ghost use Rattle.state_partial.specs.declared.no_part.NoPart.TheVariants as no_part;
 ghost use Rattle.state_plan.specs.FilePlans.{AskFor, HaveNoQuery};
-ghost use Rattle.state_plan.specs.declared.file_plan.PlanFault.TheVariants as fault;
 ghost use Rattle.stream_groups.specs.Lines.{line};
 ghost use Rattle.stream_groups.specs.declared.stop.Stop.TheVariants as stop;
 ghost use Rattle.tile_source.specs.Left.{IsUncut, lacks, source_faults, source_left};
@@ -23,8 +22,8 @@ use crate::places::{begin_of, place_of};
 use crate::reading::read_part;
 use crate::words::PartWords;
 use par_io::{Sink, Source, write_whole};
-use plan_spec::{MOST_WORKERS, Plan, PlanAnswer};
-use state_plan::command_words;
+use plan_spec::{MOST_WORKERS, Plan};
+use state_plan::plan_of as plan_in;
 use std::alloc::Global;
 use std::sync::Wait;
 use std::thread::Threads;
@@ -201,17 +200,11 @@ fn stopped<S: Source>(source: &TileSource<S>, why: Stop) -> NoPart
 /// The plan that is asked for.
 fn plan_of(alloc: Global, asked: &PartWords<'_>) -> Result<Plan, NoPart>
     ensures plan { IfOk result (AskFor (asked_of asked.now).words) }
-    ensures why { IfErr result (λ why. ((why ≡ no_part.Usage) × HaveNoQuery (asked_of asked.now).words fault.Words) ⊎ (why ≡ no_part.Stopped stop.Memory)) }
+    ensures why { IfErr result (λ why. ((why ≡ no_part.Usage) × HaveNoQuery (asked_of asked.now).words) ⊎ (why ≡ no_part.Stopped stop.Memory)) }
 {
-    let Ok(found) = command_words(alloc, asked.plan_words()) else {
-        return Err(NoPart::Stopped(Stop::Memory));
-    };
-    let Some(command) = found else {
-        return Err(NoPart::Usage);
-    };
-    match Plan::of_stream_words(alloc, command.as_slice()) {
-        Ok(plan) => Ok(plan),
-        Err(PlanAnswer::Usage) => Err(NoPart::Usage),
-        Err(PlanAnswer::Memory) => Err(NoPart::Stopped(Stop::Memory)),
+    match plan_in(alloc, asked.plan_words()) {
+        Ok(Some(plan)) => Ok(plan),
+        Ok(None) => Err(NoPart::Usage),
+        Err(_) => Err(NoPart::Stopped(Stop::Memory)),
     }
 }

@@ -2,12 +2,14 @@
 
 ghost use Rattle.std.specs.Prelude.{◌≡◌, ◌⊎◌, ◌≤◌, ℕ, List, Option, IfErr, IfOk, IfSome, length};
 ghost use Rattle.std.specs.Io.KnownBytes.{IsAtEnd};
+ghost use Rattle.csv_rows.specs.Readings.{plain};
 ghost use Rattle.par_io.specs.Faults.{Rose};
 ghost use Rattle.plan_spec.specs.Query.{Query};
 ghost use Rattle.state_partial.specs.Reads.{IsPartRead};
 ghost use Rattle.stream_groups.specs.Reading.{AreGroupsOver};
 ghost use Rattle.stream_groups.specs.Stops.{Tells};
 ghost use Rattle.stream_groups.specs.Taken.{Takes};
+ghost use Rattle.stream_groups.specs.Ways.{of_bytes, of_text};
 ghost use Rattle.stream_groups.specs.declared.stop.Stop.TheVariants as stop;
 ghost use Rattle.stream_groups.specs.declared.taken.Taken.TheVariants as amount;
 
@@ -32,7 +34,7 @@ pub(crate) struct Part {
     pub(crate) size: u64,
 }
 
-/// Reads a source whole, also after a refused row, with this many workers.
+/// Reads a source whole, also after a refused row, with this many workers. Fields are read as they are, between commas.
 pub(crate) fn read_part<R: Threads + Wait + Sync, S: Source, P: Progress>(
     rt: &R,
     alloc: Global,
@@ -43,8 +45,9 @@ pub(crate) fn read_part<R: Threads + Wait + Sync, S: Source, P: Progress>(
     progress: &mut P,
 ) -> Result<Part, Stop>
     requires workers { workers ≤ MOST_WORKERS }
+    requires plain { plan.now.reading ≡ plain }
     ensures read { IfOk result (IsPartRead plan.now (S.left source.old)) }
-    ensures why { IfErr result (Tells plan.now (S.left source.old)) }
+    ensures why { IfErr result (Tells (of_bytes plan.now.reading) plan.now (S.left source.old)) }
     ensures no_row { IfErr result (λ why. (row : StoppedRow) → why ≡ stop.Refused row → ⊥) }
     ensures read_fault { IfErr result (λ why. why ≡ stop.ReadFault → Rose (S.faults source.old) (S.faults source.new)) }
     ensures no_write { IfErr result (λ why. (why ≡ stop.WriteFault) → ⊥) }
@@ -78,8 +81,12 @@ fn counted_part<R: Threads + Sync>(
     read: ReadGroups,
     taken: Taken,
 ) -> Result<Part, Stop>
+<<<<<<< ours
     requires { (query : Query) × (from : Option (List ℕ)) × AreGroupsOver query from read }
     ensures read { IfOk result (λ part. (query : Query) (from left : Option (List ℕ)) (before after : ℕ) → AreGroupsOver query from read → IsAtEnd left → Takes from left before after (amount.Bytes 0) taken → IsPartRead query from part) }
+=======
+    ensures read { IfOk result (λ part. (query : Query) (from left : Option (List ℕ)) (before after : ℕ) → query.reading ≡ plain → AreGroupsOver (of_text query.reading) query from read → IsAtEnd left → Takes from left before after (amount.Bytes 0) taken → IsPartRead query from part) }
+>>>>>>> theirs
     ensures why { IfErr result (λ why. why ≡ stop.Memory) }
 {
     let Taken::Bytes(size) = taken else {
@@ -102,7 +109,7 @@ fn counted_part<R: Threads + Sync>(
 
 /// The part of a source of which this row is the first refused one.
 fn refused_part(alloc: Global, row: StoppedRow, size: u64) -> Part
-    ensures { (query : Query) (from : Option (List ℕ)) → Tells query from (stop.Refused row) → IfSome from (λ bytes. size ≡ length bytes) → IsPartRead query from result }
+    ensures { (query : Query) (from : Option (List ℕ)) → query.reading ≡ plain → Tells (of_text query.reading) query from (stop.Refused row) → IfSome from (λ bytes. size ≡ length bytes) → IsPartRead query from result }
 {
     Part {
         header: row.header,

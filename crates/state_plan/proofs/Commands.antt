@@ -86,7 +86,7 @@ begins : (rest : List ℕ) → AreLeft rest → 0 < length rest → BeginsWith r
 begins rest l some = begins_by rest l.texts l.are l.short l.utf8 some
 
 pub one_put : (bytes rest text after : List ℕ) (old now new : List (List ℕ)) (at : ℕ) → ArePut bytes rest old now at → rest ≡ text_bytes text ++ after → length text ≤ 2 ^ 20
-    → ((t r : List ℕ) → length t ≤ 2 ^ 20 → rest ≡ text_bytes t ++ r → (text ≡ t) × (after ≡ r)) → new ≡ now ++ (codes "--where=" ++ text) ∷ [] → ArePut bytes after old new (at + 1)
+    → ((t r : List ℕ) → length t ≤ 2 ^ 20 → rest ≡ text_bytes t ++ r → (text ≡ t) × (after ≡ r)) → new ≡ now ++ filter_word text ∷ [] → ArePut bytes after old new (at + 1)
 one_put bytes rest text after old now new at is read few written put =
     let room = is.room in
     let some : 0 < length (text_bytes text) = text_some text in
@@ -95,7 +95,7 @@ one_put bytes rest text after old now new at is read few written put =
       filters = is.filters ++ text ∷ [];
       is = is.is ∙ ap (λ (bs : List ℕ). flat_map text_bytes is.filters ++ bs) read ∙ sym (append_assoc (flat_map text_bytes is.filters) (text_bytes text) after) ∙ ap (λ (bs : List ℕ). bs ++ after) (sym pushed);
       short = All-push IsShort is.filters text is.short few;
-      put = put ∙ ap (λ (ws : List (List ℕ)). ws ++ (codes "--where=" ++ text) ∷ []) is.put ∙ append_assoc old (map filter_word is.filters) ((codes "--where=" ++ text) ∷ []) ∙ ap (λ (ws : List (List ℕ)). old ++ ws) (sym (map-append filter_word is.filters (text ∷ [])));
+      put = put ∙ ap (λ (ws : List (List ℕ)). ws ++ filter_word text ∷ []) is.put ∙ append_assoc old (map filter_word is.filters) (filter_word text ∷ []) ∙ ap (λ (ws : List (List ℕ)). old ++ ws) (sym (map-append filter_word is.filters (text ∷ [])));
       room = omega (arith, room, some, long);
       left = λ l.
           let b = begins rest (is.left l) (omega (arith, some, long)) in

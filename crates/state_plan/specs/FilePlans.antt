@@ -1,5 +1,6 @@
 -- The plan that a head names, over the columns of its header.
 use Rattle.std.specs.Prelude.{◌≡◌, ◌≢◌, ◌≤◌, ◌⊎◌, ℕ, List, None, Some, length}
+use Rattle.csv_rows.specs.Readings.{plain}
 use Rattle.csv_rows.specs.Records.{record_at, records_of}
 use Rattle.par_model.specs.Named.{bound_plan, missing_name}
 use Rattle.plan_spec.specs.Query.{Query, stream_query_of}
@@ -11,11 +12,22 @@ use Rattle.state_plan.specs.declared.file_plan.FilePlan.{FilePlan}
 use Rattle.state_plan.specs.declared.file_plan.PlanFault.{PlanFault}
 use Rattle.state_plan.specs.declared.file_plan.PlanFault.TheVariants as fault
 
--- the words of a head are those of this query
+-- the words of a head are those of this query, which reads fields as they are, between commas
 pub record AskFor (words : Words) (query : Query) : Type 0 where
   pub command : List (List ℕ)
   pub is_command : IsCommand words command
   pub asks : stream_query_of command ≡ Some query
+  pub as_they_are : query.reading ≡ plain
+
+-- a command line that asks for nothing, or for fields that are read in another way
+pub record AskForNothing (words : Words) : Type 0 where
+  pub command : List (List ℕ)
+  pub is_command : IsCommand words command
+  pub none : (query : Query) → stream_query_of command ≡ Some query → query.reading ≡ plain → ⊥
+
+-- why words are those of no such query
+abbrev pub HaveNoQuery : Words → Type 0
+HaveNoQuery words = HaveNoCommand words ⊎ AskForNothing words
 
 -- the fields of a header
 abbrev pub header_of : Subject → List (List ℕ)
@@ -31,18 +43,12 @@ pub record IsPlanOf (s : Subject) (p : FilePlan) : Type 0 where
   pub few : length p.lanes.items ≤ 8
   pub kinds : p.kinds.items ≡ kinds_of (lanes_of p.bound.items)
 
--- a command line that asks for nothing
-pub record AskForNothing (words : Words) : Type 0 where
-  pub command : List (List ℕ)
-  pub is_command : IsCommand words command
-  pub none : stream_query_of command ≡ None
-
 -- why words have no plan
-abbrev pub HaveNoQuery : Words → PlanFault → Type 0
-HaveNoQuery words fault.Memory = Unit {0}
-HaveNoQuery words fault.Words = HaveNoCommand words ⊎ AskForNothing words
-HaveNoQuery words fault.Header = ⊥
-HaveNoQuery words fault.Column = ⊥
+abbrev pub HaveNoPlan : Words → PlanFault → Type 0
+HaveNoPlan words fault.Memory = Unit {0}
+HaveNoPlan words fault.Words = HaveNoQuery words
+HaveNoPlan words fault.Header = ⊥
+HaveNoPlan words fault.Column = ⊥
 
 -- why bytes are not one record
 abbrev pub IsNoHeader : List ℕ → PlanFault → Type 0
@@ -61,6 +67,6 @@ pub record LacksName (s : Subject) : Type 0 where
 -- why a head has no plan
 abbrev pub HasNoPlan : Subject → PlanFault → Type 0
 HasNoPlan s fault.Memory = Unit {0}
-HasNoPlan s fault.Words = HaveNoCommand s.words ⊎ AskForNothing s.words
+HasNoPlan s fault.Words = HaveNoQuery s.words
 HasNoPlan s fault.Header = length (records_of s.header) ≢ 1
 HasNoPlan s fault.Column = LacksName s

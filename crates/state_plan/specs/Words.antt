@@ -1,6 +1,6 @@
 -- The words of a head as those of a command line.
-use Rattle.std.specs.Prelude.{◌≡◌, ◌≤◌, ◌^◌, ◌++◌, ℕ, List, [], ◌∷◌, All, codes, length, map}
-use Rattle.std.specs.List.{flat_map}
+use Rattle.std.specs.Prelude.{◌≡◌, ◌==◌, ◌||◌, ◌≤◌, ◌^◌, ◌++◌, ℕ, Bool, List, [], ◌∷◌, All, bytes_eq, codes, drop, if◌then◌else◌, length, map}
+use Rattle.std.specs.List.{flat_map, starts_with}
 use Rattle.std.specs.Str.{IsUtf8}
 use Rattle.state_file.specs.Text.{text_bytes}
 use Rattle.state_head.specs.Words.{Words}
@@ -10,9 +10,13 @@ abbrev pub option_words : List ℕ → List ℕ → List (List ℕ)
 option_words option [] = []
 option_words option (byte ∷ text) = (option ++ byte ∷ text) ∷ []
 
--- a filter as an option
+-- whether a text says how fields are read: `=separator=;`, `=null=NA,NULL` or `=trim`. No filter begins with an equals sign
+abbrev pub says_reading : List ℕ → Bool
+says_reading text = starts_with (λ a b. a == b) text (codes "=separator=") || (starts_with (λ a b. a == b) text (codes "=null=") || bytes_eq text (codes "=trim"))
+
+-- a text among the filters as an option: how fields are read, or a filter
 abbrev pub filter_word : List ℕ → List ℕ
-filter_word text = codes "--where=" ++ text
+filter_word text = if says_reading text then codes "--" ++ drop 1 text else codes "--where=" ++ text
 
 -- the words of a command line with these filters
 abbrev pub command_words : Words → List (List ℕ) → List (List ℕ)

@@ -4,14 +4,14 @@ ghost use Rattle.std.specs.Prelude.{◌≡◌, IfErr, IfOk, length};
 ghost use Rattle.csv_rows.specs.Records.{records_of};
 ghost use Rattle.state_head.specs.Head.{Subject, subject_of};
 ghost use Rattle.state_head.specs.Words.{words_of};
-ghost use Rattle.state_plan.specs.FilePlans.{AskFor, HasNoPlan, HaveNoQuery, IsNoHeader, IsPlanOf};
+ghost use Rattle.state_plan.specs.FilePlans.{AskFor, HasNoPlan, HaveNoPlan, IsNoHeader, IsPlanOf};
 ghost use Rattle.state_plan.specs.declared.file_plan.PlanFault.TheVariants as fault;
 ghost use Rattle.state_whole.specs.Adding.{IsShape, IsShapeOf};
 
-use crate::words::command_words;
+use crate::plan::plan_of;
 use csv_rows::{RowStore, RowsAnswer, rows};
 use par_model::BoundPlan;
-use plan_spec::{Plan, PlanAnswer};
+use plan_spec::Plan;
 use state_head::{PlanWords, Whole};
 use state_lanes::{Lane, kinds_of, lanes_of};
 use state_whole::Shape;
@@ -51,7 +51,7 @@ impl FilePlan {
         // When each error comes.
         ensures refused { IfErr result (HasNoPlan (subject_of whole.entry)) }
     {
-        let plan = plan_of(alloc, whole.words)?;
+        let plan = plan_in(alloc, whole.words)?;
         let header = header_of(alloc, whole.header)?;
         let Ok(bound) = plan.bind(&header) else {
             return Err(PlanFault::Column);
@@ -81,17 +81,13 @@ impl FilePlan {
 }
 
 /// The plan of some words.
-fn plan_of(alloc: Global, words: PlanWords<'_>) -> Result<Plan, PlanFault>
+fn plan_in(alloc: Global, words: PlanWords<'_>) -> Result<Plan, PlanFault>
     ensures plan { IfOk result (AskFor (words_of words.entry)) }
-    ensures refused { IfErr result (HaveNoQuery (words_of words.entry)) }
+    ensures refused { IfErr result (HaveNoPlan (words_of words.entry)) }
 {
-    let Some(command) = command_words(alloc, words)? else {
-        return Err(PlanFault::Words);
-    };
-    match Plan::of_stream_words(alloc, command.as_slice()) {
-        Ok(plan) => Ok(plan),
-        Err(PlanAnswer::Memory) => Err(PlanFault::Memory),
-        Err(PlanAnswer::Usage) => Err(PlanFault::Words),
+    match plan_of(alloc, words)? {
+        Some(plan) => Ok(plan),
+        None => Err(PlanFault::Words),
     }
 }
 

@@ -3,7 +3,8 @@
 #![tactic(auto)]
 
 mod file_plan;
+mod plan;
 mod words;
 
 pub use file_plan::{FilePlan, PlanFault};
-pub use words::command_words;
+pub use plan::plan_of;

@@ -1,11 +1,12 @@
-//! The words of a head as those of parstream's command line: each option in one word with its value.
+//! The words of a head as those of parstream's command line: each option in one word with its value. The texts of the
+//! filters are those of `--where`; one that begins as no filter does, with an equals sign, may say how fields are read.
 
 ghost use Rattle.std.specs.Prelude.{◌≡◌, ◌≤◌, ◌^◌, ◌++◌, ◌⊎◌, ◌∷◌, [], ℕ, All, List, IfOk, MatchOption, Ok, false, length, map as map_list, string_bytes, true};
 ghost use Rattle.std.specs.List.{flat_map};
 ghost use Rattle.std.specs.Str.{IsUtf8};
 ghost use Rattle.state_file.specs.Text.{text_bytes};
 ghost use Rattle.state_head.specs.Words.{words_of};
-ghost use Rattle.state_plan.specs.Words.{HaveNoCommand, IsCommand, filter_word, option_words};
+ghost use Rattle.state_plan.specs.Words.{HaveNoCommand, IsCommand, filter_word, option_words, says_reading};
 
 use state_file::read_text;
 use state_head::PlanWords;
@@ -16,7 +17,10 @@ use std::str;
 const MOST_WORD: u64 = 1 << 20;
 
 /// The words of a command line that say the same as those of a head, if these are UTF-8. It takes memory for them.
-pub fn command_words(alloc: Global, words: PlanWords<'_>) -> Result<Option<Vec<String>>, AllocError>
+pub(crate) fn command_words(
+    alloc: Global,
+    words: PlanWords<'_>,
+) -> Result<Option<Vec<String>>, AllocError>
     ensures { IfOk result (λ found. MatchOption found (HaveNoCommand (words_of words.entry)) (λ command. IsCommand (words_of words.entry) (map_list string_bytes command.items))) }
 {
     let mut command = Vec::new(alloc);
@@ -55,7 +59,7 @@ fn push_option(
     push_word(alloc, command, option, text)
 }
 
-/// Puts each of some texts as a filter at the end of some words, and says whether they are texts, and UTF-8.
+/// Puts each of some texts as an option at the end of some words, and says whether they are texts, and UTF-8.
 fn push_filters(alloc: Global, command: &mut Vec<String>, texts: &[u8]) -> Result<bool, AllocError>
     ensures put { result ≡ Ok true → (filters : List (List ℕ)) × (texts.now ≡ flat_map text_bytes filters) × All (λ text. length text ≤ 2 ^ 20) filters
         × (map_list string_bytes command.new.items ≡ map_list string_bytes command.old.items ++ map_list filter_word filters) }
@@ -69,13 +73,32 @@ fn push_filters(alloc: Global, command: &mut Vec<String>, texts: &[u8]) -> Resul
         let Some((text, after)) = read_text(rest, MOST_WORD) else {
             return Ok(false);
         };
-        let is_text = push_word(alloc, command, "--where=", text)?;
+        let is_text = push_filter(alloc, command, text)?;
         if !is_text {
             return Ok(false);
         }
         rest = after;
     }
     Ok(rest.is_empty())
+}
+
+/// Puts a text among the filters as an option at the end of some words, if it is UTF-8, and says whether it is.
+fn push_filter(alloc: Global, command: &mut Vec<String>, text: &[u8]) -> Result<bool, AllocError>
+    ensures put { result ≡ Ok true → map_list string_bytes command.new.items ≡ map_list string_bytes command.old.items ++ filter_word text.now ∷ [] }
+    ensures no_text { result ≡ Ok false → IsUtf8 text.now → ⊥ }
+{
+    if says_reading(text) {
+        push_word(alloc, command, "--", &text[1..])
+    } else {
+        push_word(alloc, command, "--where=", text)
+    }
+}
+
+/// Whether a text says how fields are read.
+fn says_reading(text: &[u8]) -> bool
+    ensures { result ≡ says_reading text.now }
+{
+    text.starts_with(b"=separator=") || text.starts_with(b"=null=") || text == b"=trim".as_slice()
 }
 
 /// Puts a word of these two parts at the end of some words, if the second is UTF-8, and says whether it is.

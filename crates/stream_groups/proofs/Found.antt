@@ -4,6 +4,7 @@ use Rattle.std.proofs.lemmas.List.{drop_more, get_or-append-add, get_or_append_l
 use Rattle.std.proofs.lemmas.List.Concat.{flat_map-append}
 use Rattle.std.proofs.lemmas.Grind.{get_or_after_one}
 use Rattle.csv_rows.specs.Records.{record_at, records_of}
+use Rattle.csv_rows.specs.declared.cleaning.Reading.{Reading}
 use Rattle.row_blocks.specs.Blocks.{Table}
 use Rattle.row_windows.specs.Seams.{BeginsLine}
 use Rattle.row_windows.specs.Stretch.{Stretch}
@@ -11,6 +12,7 @@ use Rattle.gather_law.specs.Shares.{together}
 use Rattle.split_run.specs.Pieces.{AreUnder, piece_records, piece_rows, rows_of}
 use Rattle.text_lines.proofs.Ends.{no_records}
 use Rattle.stream_groups.specs.Begins.{IsLined, lines_of, piece_at}
+use Rattle.stream_groups.proofs.ReadAs.{rows_count}
 
 -- a piece by its number
 pub same_there : (pieces : List Stretch) (at : ℕ) (p : Stretch) → at < length pieces → p ≡ get_or pieces at p → p ≡ piece_at pieces at
@@ -25,9 +27,9 @@ some_lines (p ∷ pieces) zero n low some = omega (arith, some, length-append p.
 some_lines (p ∷ pieces) (suc at) n low some = omega (arith, some_lines pieces at n (omega (arith, low)) some, length-append p.lines (lines_of pieces))
 
 -- one that has a row has lines
-pub begins_if : (p : Stretch) → IsLined p → 0 < length (piece_rows p) → BeginsLine p.lines
-begins_if p lined some = elim lined.begins [
-  | inl none ↦ absurd (omega (arith, some, ap length lined.rows, ap (λ (l : List ℕ). length (records_of l)) none, ap length no_records))
+pub begins_if : (reading : Reading) (p : Stretch) → IsLined reading p → 0 < length (piece_rows p) → BeginsLine p.lines
+begins_if reading p lined some = elim lined.begins [
+  | inl none ↦ absurd (omega (arith, some, rows_count reading p lined, ap (λ (l : List ℕ). length (records_of l)) none, ap length no_records))
   | inr line ↦ line
 ]
 

@@ -6,8 +6,11 @@ use Rattle.std.proofs.lemmas.List.{drop-drop, drop_all, drop_more, get_or-drop, 
 use Rattle.std.proofs.lemmas.List.Elements.{All-drop, All-from_get_or, All-head, All-tail, All-take}
 use Rattle.csv_rows.specs.Cuts.{IsCut}
 use Rattle.csv_rows.specs.Places.{place_after}
+use Rattle.csv_rows.specs.Readings.{records_as}
 use Rattle.csv_rows.specs.Records.{records_of}
+use Rattle.csv_rows.specs.declared.cleaning.Reading.{Reading}
 use Rattle.csv_rows.specs.declared.place.Place.TheVariants as scan
+use Rattle.csv_rows.proofs.Cleaned.{as-length}
 use Rattle.row_blocks.specs.Blocks.{Table}
 use Rattle.row_windows.specs.Seams.{BeginsLine, is_line_end}
 use Rattle.row_windows.specs.Stretch.{Stretch}
@@ -23,6 +26,7 @@ use Rattle.stream_groups.specs.Reading.{ArePart}
 use Rattle.stream_groups.specs.declared.place.Place.{Place}
 use Rattle.stream_groups.proofs.AllEnds.{ends_between}
 use Rattle.stream_groups.proofs.Feeds.{lines_apart}
+use Rattle.stream_groups.proofs.ReadAs.{rows_count}
 use Rattle.stream_groups.proofs.Windows.{begins_longer}
 
 -- ---- texts one after another, of which the second has no bytes or begins with the end of a line
@@ -47,26 +51,26 @@ record Follows (front : List ℕ) (ws : List Stretch) : Type 0 where
   cut : IsCut (front ++ lines_of ws)
   count : length (records_of (front ++ lines_of ws)) ≡ length (records_of front) + length (rows_of ws)
 
-follow : (front : List ℕ) (ws : List Stretch) → IsCut front → All IsLined ws → AllCut ws → Follows front ws
-follow front [] cut lined all =
+follow : (reading : Reading) (front : List ℕ) (ws : List Stretch) → IsCut front → All (IsLined reading) ws → AllCut ws → Follows front ws
+follow reading front [] cut lined all =
     let same : length (records_of (front ++ [])) ≡ length (records_of front) = ap (λ (l : List ℕ). length (records_of l)) (append-nil front) in
     record { cut = subst IsCut (sym (append-nil front)) cut; count = omega (arith, same) }
-follow front (w ∷ ws) cut lined all =
-    let here = All-head IsLined w ws lined in
+follow reading front (w ∷ ws) cut lined all =
+    let here = All-head (IsLined reading) w ws lined in
     let more : IsCut (front ++ w.lines) = cut_more front w.lines cut here.begins (All-head (λ (w : Stretch). IsCut w.lines) w ws all) in
-    let rest = follow (front ++ w.lines) ws more (All-tail IsLined w ws lined) (All-tail (λ (w : Stretch). IsCut w.lines) w ws all) in
+    let rest = follow reading (front ++ w.lines) ws more (All-tail (IsLined reading) w ws lined) (All-tail (λ (w : Stretch). IsCut w.lines) w ws all) in
     let same : (front ++ w.lines) ++ lines_of ws ≡ front ++ lines_of (w ∷ ws) = append_assoc front w.lines (lines_of ws) in
     let size : length (records_of ((front ++ w.lines) ++ lines_of ws)) ≡ length (records_of (front ++ lines_of (w ∷ ws))) = ap (λ (l : List ℕ). length (records_of l)) same in
     record {
       cut = subst IsCut same rest.cut;
-      count = omega (arith, size, rest.count, count_more front w.lines cut here.begins, ap (λ (l : Table). length l) here.rows, length-append (piece_rows w) (rows_of ws));
+      count = omega (arith, size, rest.count, count_more front w.lines cut here.begins, rows_count reading w here, length-append (piece_rows w) (rows_of ws));
     }
 
 -- what comes after a window begins with the end of a line, or there is nothing
-after_or_none : (ws : List Stretch) (back : List ℕ) → All IsLined ws → BeginsOrNone back → BeginsOrNone (lines_of ws ++ back)
-after_or_none [] back lined begins = begins
-after_or_none (w ∷ ws) back lined begins = elim (All-head IsLined w ws lined).begins [
-  | inl none ↦ subst BeginsOrNone (sym (ap (λ (l : List ℕ). (l ++ lines_of ws) ++ back) none)) (after_or_none ws back (All-tail IsLined w ws lined) begins)
+after_or_none : (reading : Reading) (ws : List Stretch) (back : List ℕ) → All (IsLined reading) ws → BeginsOrNone back → BeginsOrNone (lines_of ws ++ back)
+after_or_none reading [] back lined begins = begins
+after_or_none reading (w ∷ ws) back lined begins = elim (All-head (IsLined reading) w ws lined).begins [
+  | inl none ↦ subst BeginsOrNone (sym (ap (λ (l : List ℕ). (l ++ lines_of ws) ++ back) none)) (after_or_none reading ws back (All-tail (IsLined reading) w ws lined) begins)
   | inr line ↦ inr (subst BeginsLine (sym (append_assoc w.lines (lines_of ws) back)) (begins_longer w.lines (lines_of ws ++ back) line))
 ]
 
@@ -109,7 +113,7 @@ three_parts text from to order =
     let back : drop (to - from) rest ≡ drop to text = drop-drop (to - from) from text ∙ ap (λ (n : ℕ). drop n text) same in
     sym (take-append-drop from text) ∙ ap (λ (l : List ℕ). take from text ++ l) (sym (take-append-drop (to - from) rest) ∙ ap (λ (l : List ℕ). take (to - from) rest ++ l) back)
 
-module _ (bytes : List ℕ) (records : Table) (feeds : ℕ) (pieces : List Stretch) (back : List ℕ) (part : ArePart bytes records feeds pieces back) (lined : All IsLined pieces) (k : ℕ) (low : k < length pieces) where
+module _ (reading : Reading) (bytes : List ℕ) (records : Table) (feeds : ℕ) (pieces : List Stretch) (back : List ℕ) (part : ArePart reading bytes records feeds pieces back) (lined : All (IsLined reading) pieces) (k : ℕ) (low : k < length pieces) where
   abbrev w : Stretch
   w = piece_at pieces k
 
@@ -128,7 +132,7 @@ module _ (bytes : List ℕ) (records : Table) (feeds : ℕ) (pieces : List Stret
   abbrev front : List ℕ
   front = part.front ++ lines_of before
 
-  here : IsLined w
+  here : IsLined reading w
   here = lined k no_stretch low
 
   -- the lines of all windows
@@ -150,16 +154,16 @@ module _ (bytes : List ℕ) (records : Table) (feeds : ℕ) (pieces : List Stret
           subst (λ (v : Stretch). IsCut v.lines) (sym (get_or-take k pieces i no_stretch lower)) (part.cuts i (omega (arith, lower, low)))
 
   follows : Follows part.front before
-  follows = follow part.front before part.whole (All-take IsLined k pieces lined) before_cut
+  follows = follow reading part.front before part.whole (All-take (IsLined reading) k pieces lined) before_cut
 
   front_count : length (records_of front) ≡ length records + length (rows_of before)
-  front_count = omega (arith, follows.count, ap (λ (l : Table). length l) part.is)
+  front_count = omega (arith, follows.count, ap (λ (l : Table). length l) part.is, as-length reading part.front)
 
   front_feeds : count_feeds front ≡ feeds + feeds_of before
   front_feeds = count_append part.front (lines_of before) ∙ ap (λ (n : ℕ). n + feeds_of before) part.feeds
 
   more_or_none : BeginsOrNone more
-  more_or_none = after_or_none after back (All-drop IsLined (k + 1) pieces lined) (elim part.next [ inl none ↦ inl none | inr next ↦ inr next.0 ])
+  more_or_none = after_or_none reading after back (All-drop (IsLined reading) (k + 1) pieces lined) (elim part.next [ inl none ↦ inl none | inr next ↦ inr next.0 ])
 
   -- if anything comes after this window, it ends outside quotes
   here_cut : BeginsLine more → IsCut lines
@@ -176,7 +180,7 @@ module _ (bytes : List ℕ) (records : Table) (feeds : ℕ) (pieces : List Stret
   module _ (line : BeginsLine lines) where
     -- how many records there are, if nothing comes after this window, or something
     count_here : length (records_of (front ++ lines)) ≡ length records + length (rows_of before) + length (piece_rows w)
-    count_here = omega (arith, records_append front lines follows.cut line, front_count, ap (λ (l : Table). length l) here.rows)
+    count_here = omega (arith, records_append front lines follows.cut line, front_count, rows_count reading w here)
 
     count_last : more ≡ [] → length (records_of bytes) ≡ length records + length (rows_of before) + length (piece_rows w)
     count_last none =

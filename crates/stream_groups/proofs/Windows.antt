@@ -4,7 +4,8 @@ use Rattle.std.specs.Prelude.{OnOk}
 use Rattle.std.specs.Io.KnownBytes.{IsAtEnd}
 use Rattle.std.proofs.lemmas.List.{get_or-drop}
 use Rattle.csv.specs.Reading.{strip_bom}
-use Rattle.csv_rows.specs.Records.{records_of}
+use Rattle.csv_rows.specs.Readings.{records_as}
+use Rattle.csv_rows.specs.declared.cleaning.Reading.{Reading}
 use Rattle.par_io.specs.Faults.{Rose}
 use Rattle.plan_spec.specs.Query.{Query}
 use Rattle.row_blocks.specs.Blocks.{Table}
@@ -12,11 +13,10 @@ use Rattle.row_windows.specs.Seams.{BeginsLine, IsLong, IsSeam, is_line_end}
 use Rattle.row_windows.specs.Stretch.{Fills, IsLongWindow, Stretch}
 use Rattle.row_windows.specs.declared.window.WindowAnswer.{WindowAnswer}
 use Rattle.row_windows.specs.declared.window.WindowAnswer.TheVariants as answer
-use Rattle.row_windows.proofs.Seams.{records_add_up}
 use Rattle.csv_rows.specs.Cuts.{IsCut}
 use Rattle.text_lines.specs.Feeds.{count_feeds}
 use Rattle.text_lines.proofs.Counts.{count_append, count_none}
-use Rattle.text_lines.proofs.Ends.{no_cut, no_records}
+use Rattle.text_lines.proofs.Ends.{no_cut}
 use Rattle.text_lines.proofs.Parts.{cut_append}
 use Rattle.par_model.specs.Named.{NamedPlan}
 use Rattle.par_model.specs.Outcome.{Table as IsTable}
@@ -24,15 +24,17 @@ use Rattle.stream_groups.specs.Begins.{IsPlaceOfLong, PlacesLong}
 use Rattle.stream_groups.specs.Outcome.{outcome}
 use Rattle.stream_groups.specs.Reading.{AreRead, HasRead, IsFilled, IsNotFilled, Reaches}
 use Rattle.stream_groups.specs.Stops.{IsStopOfWindow, Tells}
+use Rattle.stream_groups.specs.Ways.{of_text}
 use Rattle.stream_groups.specs.declared.place.Place.{Place}
 use Rattle.stream_groups.specs.declared.stop.Stop.{Stop}
 use Rattle.stream_groups.specs.declared.stop.Stop.TheVariants as stop
 use Rattle.stream_groups.proofs.AllEnds.{all_ends}
+use Rattle.stream_groups.proofs.ReadAs.{as_add_up, none_as}
 
 -- before anything is read
-pub read_nothing : (left : Option (List ℕ)) → HasRead left left [] 0 []
-read_nothing None = tt
-read_nothing (Some bytes) = record { front = []; are = refl; is = no_records; parts = refl; feeds = count_none; whole = no_cut; begins = inl refl }
+pub read_nothing : (reading : Reading) (left : Option (List ℕ)) → HasRead reading left left [] 0 []
+read_nothing reading None = tt
+read_nothing reading (Some bytes) = record { front = []; are = refl; is = none_as reading; parts = refl; feeds = count_none; whole = no_cut; begins = inl refl }
 
 -- a text that begins a line does so with more behind it
 pub begins_longer : (back more : List ℕ) → BeginsLine back → BeginsLine (back ++ more)
@@ -48,7 +50,7 @@ begins_lines old new [] lines rest f some b = absurd (omega (arith, b.some))
 begins_lines old new (c ∷ was) [] rest f some b = absurd (omega (arith, some))
 begins_lines old new (c ∷ was) (d ∷ lines) rest f some b = let same : d ≡ c = cc f.2 in record { some = omega arith; is = ap is_line_end same ∙ b.is }
 
-module _ (bytes old new was lines rest more : List ℕ) (records : Table) (feeds : ℕ) (read : AreRead bytes old records feeds was) (took : old ≡ more ++ new) (text : lines ++ rest ≡ was ++ more) where
+module _ (reading : Reading) (bytes old new was lines rest more : List ℕ) (records : Table) (feeds : ℕ) (read : AreRead reading bytes old records feeds was) (took : old ≡ more ++ new) (text : lines ++ rest ≡ was ++ more) where
   -- what was there and what is left, as it is now
   left_is : was ++ old ≡ lines ++ (rest ++ new)
   left_is = ap (λ (l : List ℕ). was ++ l) took ∙ (sym (append_assoc was more new) ∙ (ap (λ (l : List ℕ). l ++ new) (sym text) ∙ append_assoc lines rest new))
@@ -56,70 +58,70 @@ module _ (bytes old new was lines rest more : List ℕ) (records : Table) (feeds
   bytes_are : bytes ≡ (read.front ++ lines) ++ (rest ++ new)
   bytes_are = read.are ∙ (ap (λ (l : List ℕ). read.front ++ l) left_is ∙ sym (append_assoc read.front lines (rest ++ new)))
 
-  parts_are : records_of bytes ≡ records ++ records_of (lines ++ (rest ++ new))
-  parts_are = read.parts ∙ ap (λ (l : List ℕ). records ++ records_of l) left_is
+  parts_are : records_as reading bytes ≡ records ++ records_as reading (lines ++ (rest ++ new))
+  parts_are = read.parts ∙ ap (λ (l : List ℕ). records ++ records_as reading l) left_is
 
   -- the front and the lines behind it: the records of both, and the end outside quotes
-  front_is : (BeginsLine was → BeginsLine lines) → IsSeam lines rest → (records_of (read.front ++ lines) ≡ records ++ records_of lines) × IsCut (read.front ++ lines)
+  front_is : (BeginsLine was → BeginsLine lines) → IsSeam lines rest → (records_as reading (read.front ++ lines) ≡ records ++ records_as reading lines) × IsCut (read.front ++ lines)
   front_is line seam = elim read.begins [
     | inl none ↦
-        let before : records ≡ [] = sym read.is ∙ (ap records_of none ∙ no_records) in (
-          ap (λ (l : List ℕ). records_of (l ++ lines)) none ∙ ap (λ (l : Table). l ++ records_of lines) (sym before),
+        let before : records ≡ [] = sym read.is ∙ (ap (records_as reading) none ∙ none_as reading) in (
+          ap (λ (l : List ℕ). records_as reading (l ++ lines)) none ∙ ap (λ (l : Table). l ++ records_as reading lines) (sym before),
           subst (λ (l : List ℕ). IsCut (l ++ lines)) (sym none) seam.whole,
         )
     | inr begun ↦ (
-      records_add_up read.front lines (record { whole = read.whole; line = line begun }) ∙ ap (λ (l : Table). l ++ records_of lines) read.is,
+      as_add_up reading read.front lines (record { whole = read.whole; line = line begun }) ∙ ap (λ (l : Table). l ++ records_as reading lines) read.is,
       cut_append read.front lines read.whole (line begun) seam.whole,
     )
   ]
 
-  more_read : (BeginsLine was → BeginsLine lines) → IsSeam lines rest → AreRead bytes new (records ++ records_of lines) (feeds + count_feeds lines) rest
+  more_read : (BeginsLine was → BeginsLine lines) → IsSeam lines rest → AreRead reading bytes new (records ++ records_as reading lines) (feeds + count_feeds lines) rest
   more_read line seam = record {
     front = read.front ++ lines;
     are = bytes_are;
     is = (front_is line seam).0;
-    parts = parts_are ∙ (ap (λ (l : Table). records ++ l) (records_add_up lines (rest ++ new) (seam_longer lines rest new seam)) ∙ sym (append_assoc records (records_of lines) (records_of (rest ++ new))));
+    parts = parts_are ∙ (ap (λ (l : Table). records ++ l) (as_add_up reading lines (rest ++ new) (seam_longer lines rest new seam)) ∙ sym (append_assoc records (records_as reading lines) (records_as reading (rest ++ new))));
     feeds = count_append read.front lines ∙ ap (λ n. n + count_feeds lines) read.feeds;
     whole = (front_is line seam).1;
     begins = inr seam.line;
   }
 
-  all_read : rest ≡ [] → new ≡ [] → records_of bytes ≡ records ++ records_of lines
+  all_read : rest ≡ [] → new ≡ [] → records_as reading bytes ≡ records ++ records_as reading lines
   all_read none end =
       let nothing : rest ++ new ≡ [] = cc (none, end) in
-      parts_are ∙ ap (λ (l : List ℕ). records ++ records_of l) (ap (λ (l : List ℕ). lines ++ l) nothing ∙ append-nil lines)
+      parts_are ∙ ap (λ (l : List ℕ). records ++ records_as reading l) (ap (λ (l : List ℕ). lines ++ l) nothing ∙ append-nil lines)
 
 -- a window that was filled
-pub filled : (from old new : Option (List ℕ)) (was lines rest : List ℕ) (records : Table) (feeds : ℕ) (is_last : Bool) → HasRead from old records feeds was → Fills old new was (lines ++ rest)
+pub filled : (reading : Reading) (from old new : Option (List ℕ)) (was lines rest : List ℕ) (records : Table) (feeds : ℕ) (is_last : Bool) → HasRead reading from old records feeds was → Fills old new was (lines ++ rest)
     → (is_last ≡ true → (rest ≡ []) × IsAtEnd new) → (is_last ≡ false → IsSeam lines rest) → (BeginsLine was → BeginsLine lines)
-    → Reaches from new (records ++ records_of lines) (feeds + count_feeds lines) rest is_last
-filled None old new was lines rest records feeds is_last read f last seam line = record { all = λ _. tt; more = λ _. tt }
-filled (Some bytes) None new was lines rest records feeds is_last read f last seam line = absurd read
-filled (Some bytes) (Some old) None was lines rest records feeds is_last read f last seam line = absurd f.1
-filled (Some bytes) (Some old) (Some new) was lines rest records feeds is_last read f last seam line = record {
-  all = λ e. all_read bytes old new was lines rest f.0 records feeds read f.1 f.2 (last e).0 (last e).1;
-  more = λ e. more_read bytes old new was lines rest f.0 records feeds read f.1 f.2 line (seam e);
+    → Reaches reading from new (records ++ records_as reading lines) (feeds + count_feeds lines) rest is_last
+filled reading None old new was lines rest records feeds is_last read f last seam line = record { all = λ _. tt; more = λ _. tt }
+filled reading (Some bytes) None new was lines rest records feeds is_last read f last seam line = absurd read
+filled reading (Some bytes) (Some old) None was lines rest records feeds is_last read f last seam line = absurd f.1
+filled reading (Some bytes) (Some old) (Some new) was lines rest records feeds is_last read f last seam line = record {
+  all = λ e. all_read reading bytes old new was lines rest f.0 records feeds read f.1 f.2 (last e).0 (last e).1;
+  more = λ e. more_read reading bytes old new was lines rest f.0 records feeds read f.1 f.2 line (seam e);
 }
 
 -- a window that begins with a record that is too long
-pub long_read : (from old new : Option (List ℕ)) (was text : List ℕ) (plan : NamedPlan) (records : Table) (feeds row : ℕ) (place : Place) → (records ≡ []) ⊎ (outcome plan records ≡ IsTable) → HasRead from old records feeds was
-    → length records ≡ row → Fills old new was text → IsLong text → IsPlaceOfLong text feeds place → IfSome from (λ bytes. PlacesLong plan bytes row place.line (string_bytes place.quote))
-long_read None old new was text plan records feeds row place whole read number f long is = tt
-long_read (Some bytes) None new was text plan records feeds row place whole read number f long is = absurd read
-long_read (Some bytes) (Some old) None was text plan records feeds row place whole read number f long is = absurd f.1
-long_read (Some bytes) (Some old) (Some new) was text plan records feeds row place whole read number f long is =
+pub long_read : (reading : Reading) (from old new : Option (List ℕ)) (was text : List ℕ) (plan : NamedPlan) (records : Table) (feeds row : ℕ) (place : Place) → (records ≡ []) ⊎ (outcome plan records ≡ IsTable) → HasRead reading from old records feeds was
+    → length records ≡ row → Fills old new was text → IsLong text → IsPlaceOfLong text feeds place → IfSome from (λ bytes. PlacesLong (of_text reading) plan bytes row place.line (string_bytes place.quote))
+long_read reading None old new was text plan records feeds row place whole read number f long is = tt
+long_read reading (Some bytes) None new was text plan records feeds row place whole read number f long is = absurd read
+long_read reading (Some bytes) (Some old) None was text plan records feeds row place whole read number f long is = absurd f.1
+long_read reading (Some bytes) (Some old) (Some new) was text plan records feeds row place whole read number f long is =
     let left : was ++ old ≡ text ++ new = ap (λ (l : List ℕ). was ++ l) f.1 ∙ (sym (append_assoc was f.0 new) ∙ ap (λ (l : List ℕ). l ++ new) (sym f.2)) in
     let body = strip_bom text in
     let here : is.at + 0 ≡ is.at = omega arith in
     record {
       has = record {
         front = read.front;
-        text = text;
+        begun = text;
         back = new;
         are = read.are ∙ ap (λ (l : List ℕ). read.front ++ l) left;
         before = records;
         number = number;
-        parts = read.parts ∙ ap (λ (l : List ℕ). records ++ records_of l) left;
+        parts = read.parts ∙ ap (λ (l : List ℕ). records ++ records_as reading l) left;
         long = long;
         whole = whole;
       };
@@ -134,11 +136,11 @@ long_read (Some bytes) (Some old) (Some new) was text plan records feeds row pla
 
 -- ---- what the filling of a window came to
 
-pub is_filled : (old new : Option (List ℕ)) (was now : Stretch) (r : Result Bool WindowAnswer) → OnOk r (now.header ≡ was.header) → OnOk r (Fills old new was.rest (now.lines ++ now.rest))
+pub is_filled : (old new : Option (List ℕ)) (was now : Stretch) (r : Result Bool WindowAnswer) → OnOk r (now.header ≡ was.header) → OnOk r (now.reading ≡ was.reading) → OnOk r (Fills old new was.rest (now.lines ++ now.rest))
     → IfOk r (λ last. last ≡ true → (now.rest ≡ []) × IsAtEnd new) → IfOk r (λ last. last ≡ false → IsSeam now.lines now.rest × (0 < length now.lines)) → IfOk r (IsFilled old new was now)
-is_filled old new was now (Err why) header reads last seam = tt
-is_filled old new was now (Ok is_last) header reads last seam = record {
-  header = header;
+is_filled old new was now (Err why) header reading reads last seam = tt
+is_filled old new was now (Ok is_last) header reading reads last seam = record {
+  like = record { header = header; reading = reading };
   reads = reads;
   last = last;
   seam = λ more. (seam more).0;
@@ -159,23 +161,23 @@ is_not_filled old new old_faults new_faults was now (Err answer.Memory) fault lo
 module _ (old new : Option (List ℕ)) (old_faults new_faults : ℕ) (was now : Stretch) where
   -- What the reason says if so many records and line feeds come before the window. If a record is too long, what was read of
   -- it is its rest now, and these are the line feeds that the reason was made with
-  pub window_tells : (query : Query) (from : Option (List ℕ)) (records : Table) (feeds given row : ℕ) (text : List ℕ) (why : WindowAnswer) (said : Stop) → (records ≡ []) ⊎ (outcome query.plan records ≡ IsTable)
-      → HasRead from old records feeds was.rest → length records ≡ row → (why ≡ answer.LongRecord → given ≡ feeds) → text ≡ now.rest → IsNotFilled old new old_faults new_faults was now why
-      → IsStopOfWindow why row given text said → Tells query from said
-  window_tells query from records feeds given row text answer.ReadFault said whole read number same rest is stop_is = subst (Tells query from) (sym stop_is) tt
-  window_tells query from records feeds given row text answer.Memory said whole read number same rest is stop_is = subst (Tells query from) (sym stop_is) tt
-  window_tells query from records feeds given row text answer.LongRecord said whole read number same rest is stop_is = elim stop_is [
+  pub window_tells : (reading : Reading) (query : Query) (from : Option (List ℕ)) (records : Table) (feeds given row : ℕ) (text : List ℕ) (why : WindowAnswer) (said : Stop) → (records ≡ []) ⊎ (outcome query.plan records ≡ IsTable)
+      → HasRead reading from old records feeds was.rest → length records ≡ row → (why ≡ answer.LongRecord → given ≡ feeds) → text ≡ now.rest → IsNotFilled old new old_faults new_faults was now why
+      → IsStopOfWindow why row given text said → Tells (of_text reading) query from said
+  window_tells reading query from records feeds given row text answer.ReadFault said whole read number same rest is stop_is = subst (Tells (of_text reading) query from) (sym stop_is) tt
+  window_tells reading query from records feeds given row text answer.Memory said whole read number same rest is stop_is = subst (Tells (of_text reading) query from) (sym stop_is) tt
+  window_tells reading query from records feeds given row text answer.LongRecord said whole read number same rest is stop_is = elim stop_is [
     | inl long ↦
         let says = long.3 in
         let place = says.place in
         let there : IsPlaceOfLong now.rest feeds place = subst (λ (n : ℕ). IsPlaceOfLong now.rest n place) (same refl) (subst (λ (t : List ℕ). IsPlaceOfLong t given place) rest says.is) in
-        let places = long_read from old new was.rest now.rest query.plan records feeds row place whole read number is.reads is.long there in
-        subst (Tells query from) (sym long.2) (record {
+        let places = long_read reading from old new was.rest now.rest query.plan records feeds row place whole read number is.reads is.long there in
+        subst (Tells (of_text reading) query from) (sym long.2) (record {
           quote = string_bytes place.quote;
           says = says.says;
-          places = subst (λ (n : ℕ). IfSome from (λ bytes. PlacesLong query.plan bytes row n (string_bytes place.quote))) (sym says.line) places;
+          places = subst (λ (n : ℕ). IfSome from (λ bytes. PlacesLong (of_text reading) query.plan bytes row n (string_bytes place.quote))) (sym says.line) places;
         })
-    | inr memory ↦ subst (Tells query from) (sym memory) tt
+    | inr memory ↦ subst (Tells (of_text reading) query from) (sym memory) tt
   ]
 
   -- if it is a read that failed

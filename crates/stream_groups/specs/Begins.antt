@@ -4,7 +4,9 @@ use Rattle.std.specs.List.{concat}
 use Rattle.csv.specs.Reading.{strip_bom}
 use Rattle.csv_rows.specs.Cuts.{IsCut}
 use Rattle.csv_rows.specs.Places.{place_after}
+use Rattle.csv_rows.specs.Readings.{plain, records_as}
 use Rattle.csv_rows.specs.Records.{record_at, records_of}
+use Rattle.csv_rows.specs.declared.cleaning.Reading.{Reading}
 use Rattle.csv_rows.specs.declared.place.Place.TheVariants as scan
 use Rattle.par_model.specs.Named.{NamedPlan}
 use Rattle.row_windows.specs.Seams.{BeginsLine, is_line_end}
@@ -14,9 +16,10 @@ use Rattle.text_lines.specs.Begins.{AllEndFrom, BeginsAt}
 use Rattle.text_lines.specs.Feeds.{count_feeds}
 use Rattle.text_lines.specs.Quotes.{IsOpenQuote}
 use Rattle.stream_groups.specs.Outcome.{HasLong}
+use Rattle.stream_groups.specs.Ways.{Way}
 use Rattle.stream_groups.specs.declared.place.Place.{Place}
 
--- ---- among all bytes
+-- ---- among all bytes of a text, in which fields are parted by commas
 
 -- The record of this number begins in this line: up to some place the bytes have the records before it, outside quotes; then
 -- come ends of lines, at least one unless it is the first record, and then its first byte. A line ends with a line feed
@@ -53,15 +56,16 @@ pub record PlacesRow (bytes : List ℕ) (row line : ℕ) (said : List ℕ) : Typ
   pub last : length (records_of bytes) ≡ row + 1 → SaysQuote begins.back line said
   pub others : (length (records_of bytes) ≢ row + 1) → said ≡ []
 
--- A record that is too long begins in this line, and this is said of a quote in it, as far as it was read
-pub record PlacesLong (plan : NamedPlan) (bytes : List ℕ) (row at : ℕ) (said : List ℕ) : Type 0 where
-  pub has : HasLong plan bytes row
+-- A record of bytes that are read so is too long, and begins in this line, and this is said of a quote in it, as far as it
+-- was read
+pub record PlacesLong (way : Way) (plan : NamedPlan) (bytes : List ℕ) (row at : ℕ) (said : List ℕ) : Type 0 where
+  pub has : HasLong way plan bytes row
   pub ends : List ℕ
   pub begun : List ℕ
-  pub are : strip_bom has.text ≡ ends ++ begun
+  pub are : strip_bom (way.text has.begun) ≡ ends ++ begun
   pub are_ends : All (λ c. is_line_end c ≡ true) ends
   pub other : is_line_end (slice_index begun 0) ≡ false
-  pub line : at ≡ count_feeds has.front + count_feeds ends + 1
+  pub line : at ≡ count_feeds (way.text has.front) + count_feeds ends + 1
   pub says : SaysQuote begun at said
 
 -- ---- in the windows of a batch
@@ -76,7 +80,7 @@ feeds_of pieces = count_feeds (lines_of pieces)
 
 -- a window of no bytes
 abbrev pub no_stretch : Stretch
-no_stretch = record { header = []; lines = []; rest = [] }
+no_stretch = record { reading = plain; header = []; lines = []; rest = [] }
 
 -- the window of this number
 abbrev pub piece_at : List Stretch → ℕ → Stretch
@@ -86,12 +90,13 @@ piece_at pieces at = slice_index_or pieces at no_stretch
 abbrev pub BeginsOrNone : List ℕ → Type 0
 BeginsOrNone text = (text ≡ []) ⊎ BeginsLine text
 
--- the rows of a window are the records of its lines, which begin with the end of a line unless there are none, and the record
--- before them is that of its header
-pub record IsLined (w : Stretch) : Type 0 where
+-- a window is read so, its rows are the records of its lines, which begin with the end of a line unless there are none, and
+-- the record before them is that of its header
+pub record IsLined (reading : Reading) (w : Stretch) : Type 0 where
+  pub reading_is : w.reading ≡ reading
   pub begins : BeginsOrNone w.lines
-  pub rows : piece_rows w ≡ records_of w.lines
-  pub one : records_of w.header ≡ record_at (piece_records w) 0 ∷ []
+  pub rows : piece_rows w ≡ records_as reading w.lines
+  pub one : records_as reading w.header ≡ record_at (piece_records w) 0 ∷ []
 
 -- the lines of each of some windows end outside quotes
 abbrev pub AllCut : List Stretch → Type 0

@@ -1,3 +1,5 @@
+pub mod Ways
+pub mod Sources
 pub mod Outcome
 pub mod Said
 pub mod Gathering

@@ -50,7 +50,7 @@ pub(crate) fn add_and_fill<R: Threads + Wait + Sync, S: Source>(
     taken: &mut Taken,
 ) -> Result<Result<bool, WindowAnswer>, Stop>
     requires pieces { length batch.now.pieces.items ≤ 64 }
-    requires lines { All IsLined batch.now.pieces.items }
+    requires lines { All (IsLined plan.now.reading) batch.now.pieces.items }
     requires feeds { batch.now.before + feeds_of batch.now.pieces.items ≤ 2 ^ 60 }
     requires columns { HaveColumns bound.now batch.now.pieces.items }
     requires workers { workers ≤ MOST_WORKERS }
@@ -93,7 +93,7 @@ fn add_beside<R: Threads + Wait + Sync, S: Source>(
     taken: &mut Taken,
 ) -> Result<Result<bool, WindowAnswer>, Stop>
     requires pieces { length batch.now.pieces.items ≤ 64 }
-    requires lines { All IsLined batch.now.pieces.items }
+    requires lines { All (IsLined plan.now.reading) batch.now.pieces.items }
     requires feeds { batch.now.before + feeds_of batch.now.pieces.items ≤ 2 ^ 60 }
     requires columns { HaveColumns bound.now batch.now.pieces.items }
     requires workers { workers ≤ MOST_WORKERS }
@@ -114,7 +114,7 @@ fn add_beside<R: Threads + Wait + Sync, S: Source>(
 {
     let mut add = || -> Result<(), Stop>
         requires pieces { length batch.now.pieces.items ≤ 64 }
-        requires lines { All IsLined batch.now.pieces.items }
+        requires lines { All (IsLined plan.now.reading) batch.now.pieces.items }
         requires feeds { batch.now.before + feeds_of batch.now.pieces.items ≤ 2 ^ 60 }
         requires columns { HaveColumns bound.now batch.now.pieces.items }
         requires workers { workers ≤ MOST_WORKERS }
@@ -152,7 +152,7 @@ pub(crate) fn add_batch<R: Threads + Wait + Sync>(
     size: usize,
 ) -> Result<(), Stop>
     requires pieces { length batch.now.pieces.items ≤ 64 }
-    requires lines { All IsLined batch.now.pieces.items }
+    requires lines { All (IsLined plan.now.reading) batch.now.pieces.items }
     requires feeds { batch.now.before + feeds_of batch.now.pieces.items ≤ 2 ^ 60 }
     requires columns { HaveColumns bound.now batch.now.pieces.items }
     requires workers { workers ≤ MOST_WORKERS }

@@ -2,13 +2,14 @@
 
 ghost use Rattle.std.specs.Prelude.{◌≡◌, ◌≤◌, ◌+◌, ◌^◌, ◌∷◌, [], Err, IfErr, IfOk, OnOk};
 ghost use Rattle.par_io.specs.Faults.{Rose};
-ghost use Rattle.stream_groups.specs.Reading.{AddsPiece, IsFilledBatch, IsNotFilled, MeetsLong};
+ghost use Rattle.stream_groups.specs.Reading.{AddsPiece, IsFilledBatch, IsLike, IsNotFilled, MeetsLong};
 ghost use Rattle.stream_groups.specs.Taken.{Takes};
 ghost use Rattle.text_lines.specs.Feeds.{count_feeds};
 ghost use Rattle.row_windows.specs.declared.window.WindowAnswer.TheVariants as answer;
 
 use crate::filling::{fill, more_feeds};
 use crate::taken::Taken;
+use csv_rows::Reading;
 use par_io::Source;
 use row_windows::{Window, WindowAnswer};
 use std::alloc::{AllocError, Global};
@@ -38,10 +39,10 @@ pub(crate) struct Batch {
 
 impl Batch {
     /// No windows, and nothing that was read.
-    pub(crate) fn new(alloc: Global) -> Batch {
+    pub(crate) fn new(alloc: Global, reading: &Reading) -> Batch {
         Batch {
             pieces: Vec::new(alloc),
-            next: Window::new(alloc),
+            next: Window::new(alloc, reading),
             before: 0,
             feeds: 0,
         }
@@ -54,11 +55,11 @@ impl Batch {
         ensures feeds { IfOk result (λ b. b.feeds ≡ before + count_feeds window.lines) }
         ensures few { IfOk result (λ b. b.feeds ≤ 2 ^ 60) }
         ensures pieces { IfOk result (λ b. b.pieces.items ≡ window ∷ []) }
-        ensures header { IfOk result (λ b. b.next.header ≡ window.header) }
+        ensures like { IfOk result (λ b. IsLike window b.next) }
         ensures lines { IfOk result (λ b. b.next.lines ≡ []) }
         ensures rest { IfOk result (λ b. b.next.rest ≡ window.rest) }
     {
-        let mut next = Window::new(alloc);
+        let mut next = Window::new(alloc, window.reading());
         next.follow(&window)?;
         let feeds = more_feeds(before, window.lines())?;
         let mut pieces = Vec::new(alloc);
@@ -73,7 +74,7 @@ impl Batch {
 
     /// Makes this batch begin as the one behind another: its windows are to be filled from that one's rest on.
     pub(crate) fn follow(&mut self, before: &Batch) -> Result<(), AllocError>
-        ensures header { OnOk result (self.new.next.header ≡ before.now.next.header) }
+        ensures like { OnOk result (IsLike before.now.next self.new.next) }
         ensures lines { OnOk result (self.new.next.lines ≡ []) }
         ensures rest { OnOk result (self.new.next.rest ≡ before.now.next.rest) }
         ensures before { OnOk result (self.new.before ≡ before.now.feeds) }
@@ -120,7 +121,7 @@ impl Batch {
                 return Ok(false);
             }
             let goal = goal_of(&self.next, size);
-            let spare = spare_of(alloc, &mut spares, goal);
+            let spare = spare_of(alloc, &mut spares, goal, self.next.reading());
             match self.add_piece(spare, source, goal, taken) {
                 Ok(true) => return Ok(true),
                 Ok(false) => {}
@@ -187,9 +188,9 @@ fn goal_of(next: &Window, size: usize) -> usize {
 }
 
 /// A window whose buffer is used again, unless that is much longer than the window is to be.
-fn spare_of(alloc: Global, spares: &mut Vec<Window>, goal: usize) -> Window {
+fn spare_of(alloc: Global, spares: &mut Vec<Window>, goal: usize, reading: &Reading) -> Window {
     match spares.pop() {
         Some(spare) if spare.room() / 4 <= goal => spare,
-        _ => Window::new(alloc),
+        _ => Window::new(alloc, reading),
     }
 }

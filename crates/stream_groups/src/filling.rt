@@ -1,26 +1,29 @@
 //! The windows of a source: how one is filled, and how the first is parted from its header.
 
-ghost use Rattle.std.specs.Prelude.{◌≡◌, ◌<◌, ◌≤◌, ◌+◌, ◌^◌, ◌++◌, ◌∷◌, ◌⊎◌, [], ℕ, List, Option, Err, IfErr, IfOk, OnErr, OnOk, length, string_bytes, true};
+ghost use Rattle.std.specs.Prelude.{◌≡◌, ◌<◌, ◌≤◌, ◌+◌, ◌^◌, ◌++◌, ◌∷◌, ◌⊎◌, [], ℕ, List, Option, Err, IfErr, IfOk, OnErr, OnOk, length, map, string_bytes, true};
 ghost use Rattle.std.specs.Io.KnownBytes.{IsAtEnd};
 ghost use Rattle.csv_rows.specs.Cuts.{IsCut};
-ghost use Rattle.csv_rows.specs.Records.{record_at, records_of};
+ghost use Rattle.csv_rows.specs.Readings.{exchanged, records_as, records_in};
+ghost use Rattle.csv_rows.specs.Records.{record_at};
 ghost use Rattle.csv_rows.specs.declared.records.RowsAnswer.TheVariants as parsing;
 ghost use Rattle.par_io.specs.Faults.{Rose};
 ghost use Rattle.row_blocks.specs.Blocks.{Table};
 ghost use Rattle.split_run.specs.Pieces.{piece_records};
 ghost use Rattle.text_lines.specs.Feeds.{count_feeds};
 ghost use Rattle.stream_groups.specs.Begins.{IsLined};
-ghost use Rattle.stream_groups.specs.Reading.{HasHeader, HasPart, IsFilled, IsFirst, IsNotFilled, Reaches};
+ghost use Rattle.stream_groups.specs.Reading.{HasHeader, HasPart, IsFilled, IsFirst, IsLike, IsNotFilled, Reaches};
 ghost use Rattle.stream_groups.specs.Stops.{IsStopOfLong, IsStopOfWindow, SaysOfLong, Tells};
 ghost use Rattle.stream_groups.specs.Taken.{Takes};
+ghost use Rattle.stream_groups.specs.Ways.{of_text};
 ghost use Rattle.stream_groups.specs.declared.stop.Stop.TheVariants as stop;
 
 use crate::batch::MOST_FEEDS;
 use crate::place::place_of_long;
 use crate::stop::Stop;
 use crate::taken::Taken;
-use csv_rows::{RowStore, RowsAnswer, rows};
+use csv_rows::{Reading, RowStore, RowsAnswer, exchange, rows_as};
 use par_io::Source;
+use plan_spec::Plan;
 use row_windows::{Window, WindowAnswer, header_end};
 use std::alloc::{AllocError, Global};
 use std::sync::Wait;
@@ -43,27 +46,29 @@ struct LongSaid {
     said: String,
 }
 
-/// The first window that has a record.
+/// The first window that has a record, with its fields read so.
 pub(crate) fn first_window<R: Wait, S: Source>(
     rt: &R,
     alloc: Global,
+    reading: &Reading,
     source: &mut S,
     size: usize,
     taken: &mut Taken,
 ) -> Result<First, Stop>
     ensures header { IfOk result (λ f. HasHeader f.header f.window f.is_last) }
-    ensures reaches { IfOk result (λ f. Reaches (S.left source.old) (S.left source.new) (piece_records f.window) (f.feeds + count_feeds f.window.lines) f.window.rest f.is_last) }
-    ensures part { IfOk result (λ f. 0 < length f.window.lines → HasPart (S.left source.old) (S.left source.new) (record_at f.header 0 ∷ []) f.feeds (f.window ∷ []) f.window.rest) }
-    ensures lined { IfOk result (λ f. IsLined f.window) }
+    ensures reading { IfOk result (λ f. f.window.reading ≡ reading.now) }
+    ensures reaches { IfOk result (λ f. Reaches reading.now (S.left source.old) (S.left source.new) (piece_records f.window) (f.feeds + count_feeds f.window.lines) f.window.rest f.is_last) }
+    ensures part { IfOk result (λ f. 0 < length f.window.lines → HasPart reading.now (S.left source.old) (S.left source.new) (record_at f.header 0 ∷ []) f.feeds (f.window ∷ []) f.window.rest) }
+    ensures lined { IfOk result (λ f. IsLined reading.now f.window) }
     ensures few { IfOk result (λ f. f.feeds ≤ 2 ^ 60) }
     ensures end { IfOk result (λ f. f.is_last ≡ true → IsAtEnd (S.left source.new)) }
     ensures taken { Takes (S.left source.old) (S.left source.new) (S.faults source.old) (S.faults source.new) taken.old taken.new }
-    ensures why { IfErr result (λ why. (query : _) → Tells query (S.left source.old) why) }
+    ensures why { IfErr result (λ why. (query : _) → Tells (of_text reading.now) query (S.left source.old) why) }
     ensures read_fault { IfErr result (λ why. why ≡ stop.ReadFault → Rose (S.faults source.old) (S.faults source.new)) }
     ensures faults { S.faults source.old ≤ S.faults source.new }
     ensures no_write { IfErr result (λ why. (why ≡ stop.WriteFault) → ⊥) }
 {
-    let mut window = Window::new(alloc);
+    let mut window = Window::new(alloc, reading);
     let mut feeds = 0;
     for _ in rt.forever() {
         let is_last = match fill(&mut window, source, size, taken) {
@@ -113,12 +118,12 @@ pub(crate) fn more_feeds(feeds: u64, bytes: &[u8]) -> Result<u64, AllocError>
 
 /// A window that begins as the one behind another.
 fn behind(alloc: Global, before: &Window) -> Result<Window, Stop>
-    ensures header { IfOk result (λ next. next.header ≡ before.now.header) }
+    ensures like { IfOk result (IsLike before.now) }
     ensures lines { IfOk result (λ next. next.lines ≡ []) }
     ensures rest { IfOk result (λ next. next.rest ≡ before.now.rest) }
     ensures why { IfErr result (λ why. why ≡ stop.Memory) }
 {
-    let mut next = Window::new(alloc);
+    let mut next = Window::new(alloc, before.reading());
     next.follow(before)?;
     Ok(next)
 }
@@ -189,24 +194,45 @@ fn long_says(alloc: Global, feeds: u64, text: &[u8]) -> Result<LongSaid, AllocEr
 /// Makes the line of the header, which the window's lines begin with, that of the windows behind it, and gives its record.
 fn part_header(alloc: Global, window: &mut Window) -> Result<RowStore, RowsAnswer>
     requires none { window.old.header ≡ [] }
+    ensures reading { window.new.reading ≡ window.old.reading }
     ensures one { IfOk result (λ header. length header ≡ 1) }
-    ensures record { IfOk result (λ header. header ≡ records_of window.new.header) }
-    ensures first { OnOk result ((more : Table) × (records_of window.old.lines ≡ records_of window.new.header ++ more)) }
+    ensures record { IfOk result (λ header. header ≡ records_as window.old.reading window.new.header) }
+    ensures first { OnOk result ((more : Table) × (records_as window.old.reading window.old.lines ≡ records_as window.old.reading window.new.header ++ more)) }
     ensures same { OnOk result (window.new.header ++ window.new.lines ≡ window.old.lines) }
     ensures cut { OnOk result (IsCut window.old.lines → IsCut window.new.header) }
     ensures front { OnOk result (0 < length window.new.lines → IsCut window.new.header) }
-    ensures lined { OnOk result (IsLined window.new) }
+    ensures lined { OnOk result (IsLined window.old.reading window.new) }
     ensures rest { window.new.rest ≡ window.old.rest }
     ensures err { OnErr result (window.new ≡ window.old) }
-    ensures no_header { result ≡ Err parsing.NoHeader → records_of window.old.lines ≡ [] }
+    ensures no_header { result ≡ Err parsing.NoHeader → records_as window.old.reading window.old.lines ≡ [] }
 {
     let lines = window.table();
     let at = header_end(lines).unwrap_or(lines.len());
-    match rows(alloc, &lines[..at]) {
+    match rows_as(alloc, window.reading(), &lines[..at]) {
         Ok(header) => {
             window.set_header(at);
             Ok(header)
         }
         Err(why) => Err(why),
     }
+}
+
+/// The line of a window's header as it is in the input.
+pub(crate) fn header_line(
+    alloc: Global,
+    plan: &Plan,
+    window: &Window,
+) -> Result<Vec<u8>, AllocError>
+    ensures { IfOk result (λ line. records_in plan.now.reading line.items ≡ records_as plan.now.reading window.now.header) }
+{
+    let line = Vec::from_slice(alloc, window.header())?;
+    Ok(exchanged_line(line, plan.reading().separator))
+}
+
+/// A line in which the comma and the separator are exchanged.
+fn exchanged_line(mut line: Vec<u8>, separator: u8) -> Vec<u8>
+    ensures { result.items ≡ map (exchanged separator) line.items }
+{
+    exchange(line.as_mut_slice(), separator);
+    line
 }

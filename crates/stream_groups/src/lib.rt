@@ -1,4 +1,4 @@
-//! The groups of a source of comma-separated bytes of any length, or why there are none.
+//! The groups of a source of separated bytes of any length, or why there are none.
 //!
 //! The bytes are read window by window, whole records each. The windows of a batch are shared out to the participants, and
 //! if there are workers the caller's thread fills the next batch meanwhile. Each participant has a map of the groups of its
@@ -9,6 +9,9 @@
 //! The first fault ends it: a read that failed, no header, a column that it lacks or has twice, a record that is too long,
 //! and a refused row, as they come on the way through the input. A [`Stop`] says which, and has a status and a line: a row
 //! is named by its number and by the line in which it begins, as an editor counts lines.
+//!
+//! Fields are read as the plan says (`csv_rows::Reading`). A [`Separated`] source exchanges the comma and the separator, so
+//! windows are cut and scanned by commas, and the records of a window are those of the input.
 
 #![tactic(auto)]
 
@@ -16,19 +19,23 @@ mod adding;
 mod batch;
 mod filling;
 mod gathered;
+mod input;
 mod place;
 mod progress;
 mod reading;
 mod refused;
 mod rows;
+mod separated;
 mod stop;
 mod taken;
 mod twice;
 mod words;
 
 pub use gathered::{Gathered, all_groups, may_part};
+pub use input::read_input;
 pub use progress::{Progress, SoFar, Untold};
 pub use reading::{ReadGroups, read_groups};
+pub use separated::Separated;
 pub use stop::{LONG_RECORD, RefusedRow, Stop};
 pub use taken::Taken;
 pub use words::read_words;

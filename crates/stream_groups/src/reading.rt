@@ -11,11 +11,12 @@ ghost use Rattle.stream_groups.specs.Reading.{AreGroupsOver, HasHeader, HasPart,
 ghost use Rattle.split_run.specs.Pieces.{piece_records};
 ghost use Rattle.stream_groups.specs.Stops.{Tells};
 ghost use Rattle.stream_groups.specs.Taken.{Takes};
+ghost use Rattle.stream_groups.specs.Ways.{of_text};
 ghost use Rattle.stream_groups.specs.declared.stop.Stop.TheVariants as stop;
 
 use crate::adding::{Added, add_and_fill, add_batch};
 use crate::batch::Batch;
-use crate::filling::{First, first_window, stop_of_window};
+use crate::filling::{First, first_window, header_line, stop_of_window};
 use crate::gathered::Gathered;
 use crate::progress::{Progress, SoFar};
 use crate::rows::bind;
@@ -54,7 +55,7 @@ pub(crate) struct Stream {
 const FIRST_BYTES: usize = 4096;
 
 /// Reads the whole source, in batches of this many bytes or more, with this many workers, and reports how far it has come. The bytes that
-/// the source gave are counted, also if there are no groups.
+/// the source gave are counted, also if there are no groups. In its bytes the comma and the plan's separator are exchanged.
 pub fn read_groups<R: Threads + Wait + Sync, S: Source, P: Progress>(
     rt: &R,
     alloc: Global,
@@ -66,8 +67,8 @@ pub fn read_groups<R: Threads + Wait + Sync, S: Source, P: Progress>(
     taken: &mut Taken,
 ) -> Result<ReadGroups, Stop>
     requires workers { workers ≤ MOST_WORKERS }
-    ensures groups { IfOk result (AreGroupsOver plan.now (S.left source.old)) }
-    ensures why { IfErr result (Tells plan.now (S.left source.old)) }
+    ensures groups { IfOk result (AreGroupsOver (of_text plan.now.reading) plan.now (S.left source.old)) }
+    ensures why { IfErr result (Tells (of_text plan.now.reading) plan.now (S.left source.old)) }
     ensures read_fault { IfErr result (λ why. why ≡ stop.ReadFault → Rose (S.faults source.old) (S.faults source.new)) }
     ensures no_write { IfErr result (λ why. (why ≡ stop.WriteFault) → ⊥) }
 
@@ -75,7 +76,8 @@ pub fn read_groups<R: Threads + Wait + Sync, S: Source, P: Progress>(
     ensures end { OnOk result (IsAtEnd (S.left source.new)) }
     ensures taken { Takes (S.left source.old) (S.left source.new) (S.faults source.old) (S.faults source.new) taken.old taken.new }
 {
-    let first = first_window(rt, alloc, source, size.min(FIRST_BYTES), taken)?;
+    let reading = plan.reading();
+    let first = first_window(rt, alloc, reading, source, size.min(FIRST_BYTES), taken)?;
     let bound = bind(alloc, plan, &first.header)?;
     let mut stream = open(alloc, plan, workers, &bound, first)?;
     let mut bytes = 0u64;
@@ -111,13 +113,13 @@ fn open(
 ) -> Result<Stream, Stop>
     requires header { HasHeader first.header first.window first.is_last }
     requires bound { IsBound plan.now (record_at first.header 0) bound.now }
-    requires lined { IsLined first.window }
+    requires lined { IsLined plan.now.reading first.window }
     requires few { first.feeds ≤ 2 ^ 60 }
     requires workers { workers ≤ MOST_WORKERS }
     ensures stream { IfOk result (IsStream plan.now workers bound.now) }
     ensures last { IfOk result (λ s. s.is_last ≡ first.is_last) }
-    ensures rows { IfOk result (λ s. (from left : Option (List ℕ)) → Reaches from left (piece_records first.window) (first.feeds + count_feeds first.window.lines) first.window.rest first.is_last
-        → (0 < length first.window.lines → HasPart from left (record_at first.header 0 ∷ []) first.feeds (first.window ∷ []) first.window.rest) → HasRows bound.now from left s []) }
+    ensures rows { IfOk result (λ s. (from left : Option (List ℕ)) → Reaches plan.now.reading from left (piece_records first.window) (first.feeds + count_feeds first.window.lines) first.window.rest first.is_last
+        → (0 < length first.window.lines → HasPart plan.now.reading from left (record_at first.header 0 ∷ []) first.feeds (first.window ∷ []) first.window.rest) → HasRows plan.now.reading bound.now from left s []) }
     ensures why { IfErr result (λ why. why ≡ stop.Memory) }
 {
     let _of = plan;
@@ -132,7 +134,7 @@ fn open(
     Ok(Stream {
         batch: Batch::of_window(alloc, window, feeds)?,
         is_last,
-        spare: Batch::new(alloc),
+        spare: Batch::new(alloc, plan.reading()),
         header,
         added: Added {
             gathered: Gathered::Near(maps),
@@ -157,9 +159,9 @@ fn next_window<R: Threads + Wait + Sync, S: Source>(
     requires stream { IsStream plan.now workers bound.now stream }
     requires more { stream.is_last ≡ false }
     ensures stream { IfOk result (IsStream plan.now workers bound.now) }
-    ensures rows { IfOk result (λ s. (from : Option (List ℕ)) (rows : Table) → HasRows bound.now from (S.left source.old) stream rows
-        → (all : Table) × HasRows bound.now from (S.left source.new) s all) }
-    ensures why { IfErr result (λ why. (from : Option (List ℕ)) (rows : Table) → HasRows bound.now from (S.left source.old) stream rows → Tells plan.now from why) }
+    ensures rows { IfOk result (λ s. (from : Option (List ℕ)) (rows : Table) → HasRows plan.now.reading bound.now from (S.left source.old) stream rows
+        → (all : Table) × HasRows plan.now.reading bound.now from (S.left source.new) s all) }
+    ensures why { IfErr result (λ why. (from : Option (List ℕ)) (rows : Table) → HasRows plan.now.reading bound.now from (S.left source.old) stream rows → Tells (of_text plan.now.reading) plan.now from why) }
     ensures read_fault { IfErr result (λ why. why ≡ stop.ReadFault → Rose (S.faults source.old) (S.faults source.new)) }
     ensures faults { S.faults source.old ≤ S.faults source.new }
     ensures no_write { IfErr result (λ why. (why ≡ stop.WriteFault) → ⊥) }
@@ -206,8 +208,8 @@ fn end<R: Threads + Wait + Sync>(
     requires stream { IsStream plan.now workers bound stream }
     requires last { stream.is_last ≡ true }
     requires workers { workers ≤ MOST_WORKERS }
-    ensures groups { IfOk result (λ r. (from left : Option (List ℕ)) (rows : Table) → HasRows bound from left stream rows → AreGroupsOver plan.now from r) }
-    ensures why { IfErr result (λ why. (from left : Option (List ℕ)) (rows : Table) → HasRows bound from left stream rows → Tells plan.now from why) }
+    ensures groups { IfOk result (λ r. (from left : Option (List ℕ)) (rows : Table) → HasRows plan.now.reading bound from left stream rows → AreGroupsOver (of_text plan.now.reading) plan.now from r) }
+    ensures why { IfErr result (λ why. (from left : Option (List ℕ)) (rows : Table) → HasRows plan.now.reading bound from left stream rows → Tells (of_text plan.now.reading) plan.now from why) }
     ensures kind { IfErr result (λ why. ((why ≡ stop.ReadFault) ⊎ (why ≡ stop.WriteFault)) → ⊥) }
 {
     let Stream {
@@ -216,7 +218,7 @@ fn end<R: Threads + Wait + Sync>(
         ..
     } = stream;
     add_batch(rt, alloc, plan, workers, &bound, &batch, &mut added, size)?;
-    let header = Vec::from_slice(alloc, batch.next.header())?;
+    let header = header_line(alloc, plan, &batch.next)?;
     Ok(ReadGroups {
         bound,
         header,

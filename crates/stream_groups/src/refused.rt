@@ -8,7 +8,7 @@ ghost use Rattle.stream_groups.specs.Begins.{feeds_of, piece_at};
 ghost use Rattle.stream_groups.specs.Said.{filter_field, item_field, row_says};
 ghost use Rattle.stream_groups.specs.Stops.{IsRow};
 
-use csv_rows::{Record, RowStore, rows};
+use csv_rows::{Record, RowStore, rows_as};
 use par_model::{BoundPlan, ITEM_CAUSE, KEY_CAUSE, Refusal, WIDTH_CAUSE};
 use plan_spec::Plan;
 use row_windows::Window;
@@ -43,7 +43,7 @@ pub(crate) fn find_row(alloc: Global, pieces: &[Window], row: u64) -> Result<Fou
     let mut feeds = 0u64;
     let mut number = 0;
     for piece in pieces {
-        let Ok(store) = rows(alloc, piece.table()) else {
+        let Ok(store) = rows_as(alloc, piece.reading(), piece.table()) else {
             return Err(AllocError);
         };
         match place_in(row, before, store.count()) {

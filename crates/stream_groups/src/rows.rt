@@ -11,6 +11,7 @@ ghost use Rattle.stream_groups.specs.Stops.{IsHeaderLine, IsRefusedRow, Restates
 ghost use Rattle.stream_groups.specs.Twice.{SaysTwice, twice_of};
 ghost use Rattle.stream_groups.specs.declared.stop.Stop.TheVariants as stop;
 
+use crate::filling::header_line;
 use crate::place::place_in_lines;
 use crate::refused::{find_row, row_says};
 use crate::stop::{RefusedRow, Stop};
@@ -54,9 +55,9 @@ pub(crate) fn stop_of_block(
     answer: BlockAnswer,
 ) -> Stop
     requires pieces { length pieces.now ≤ 64 }
-    requires lines { All IsLined pieces.now }
+    requires lines { All (IsLined plan.now.reading) pieces.now }
     requires few { feeds + feeds_of pieces.now ≤ 2 ^ 60 }
-    ensures { Restates plan.now.plan bound.now pieces.now before feeds answer result }
+    ensures { Restates plan.now.reading plan.now.plan bound.now pieces.now before feeds answer result }
 {
     match answer {
         BlockAnswer::Memory => Stop::Memory,
@@ -113,9 +114,9 @@ fn stop_of_row(
     why: Refusal,
 ) -> Stop
     requires pieces { length pieces.now ≤ 64 }
-    requires lines { All IsLined pieces.now }
+    requires lines { All (IsLined plan.now.reading) pieces.now }
     requires few { feeds + feeds_of pieces.now ≤ 2 ^ 60 }
-    ensures { IsRefusedRow plan.now.plan bound.now pieces.now number row feeds why result ⊎ (result ≡ stop.Memory) }
+    ensures { IsRefusedRow plan.now.reading plan.now.plan bound.now pieces.now number row feeds why result ⊎ (result ≡ stop.Memory) }
 {
     match says_of_row(alloc, plan, bound, pieces, row, feeds, why) {
         Ok(said) => Stop::Refused(RefusedRow {
@@ -148,10 +149,10 @@ fn says_of_row(
     why: Refusal,
 ) -> Result<RowSaid, AllocError>
     requires pieces { length pieces.now ≤ 64 }
-    requires lines { All IsLined pieces.now }
+    requires lines { All (IsLined plan.now.reading) pieces.now }
     requires few { feeds + feeds_of pieces.now ≤ 2 ^ 60 }
     ensures says { IfOk result (λ said. SaysOfRow plan.now.plan bound.now pieces.now row feeds why said.line (string_bytes said.text)) }
-    ensures header { IfOk result (λ said. IsHeaderLine pieces.now said.header.items) }
+    ensures header { IfOk result (λ said. IsHeaderLine plan.now.reading pieces.now said.header.items) }
 {
     let found = find_row(alloc, pieces, row)?;
     let header = found.store.find(0);
@@ -165,18 +166,23 @@ fn says_of_row(
     text.push_str(place.quote.as_str())?;
     Ok(RowSaid {
         line: place.line,
-        header: header_at(alloc, pieces, found.piece)?,
+        header: header_at(alloc, plan, pieces, found.piece)?,
         text,
     })
 }
 
-/// A copy of the header's line in the window of this number.
-fn header_at(alloc: Global, pieces: &[Window], at: usize) -> Result<Vec<u8>, AllocError>
+/// The header's line in the window of this number, as it is in the input.
+fn header_at(
+    alloc: Global,
+    plan: &Plan,
+    pieces: &[Window],
+    at: usize,
+) -> Result<Vec<u8>, AllocError>
     requires within { at < length pieces.now }
-    requires lines { All IsLined pieces.now }
-    ensures { IfOk result (λ bytes. IsHeaderLine pieces.now bytes.items) }
+    requires lines { All (IsLined plan.now.reading) pieces.now }
+    ensures { IfOk result (λ bytes. IsHeaderLine plan.now.reading pieces.now bytes.items) }
 {
-    Vec::from_slice(alloc, pieces[at].header())
+    header_line(alloc, plan, &pieces[at])
 }
 
 /// The lines of the window of this number.

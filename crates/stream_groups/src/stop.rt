@@ -98,7 +98,7 @@ impl Stop {
     {
         match self {
             Stop::Usage => plain(
-                "usage: parstream [--group COLUMNS] --agg ITEMS [--where FILTER].. [--decimals PLACES] [--workers N]",
+                "usage: parstream [--group COLUMNS] --agg ITEMS [--where FILTER].. [--decimals PLACES] [--separator BYTE] [--null TEXTS] [--trim] [--workers N]",
             ),
             Stop::ReadFault => plain("read fault"),
             Stop::NoHeader => plain("no header"),

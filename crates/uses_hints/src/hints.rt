@@ -134,7 +134,7 @@ fn shows(rt: HostRuntime) -> Result<(), Fail> {
 }
 
 /// Words, and which of them is not understood, by its place, and what may come there.
-const WRONG: [(&str, Option<(usize, Expected)>); 32] = [
+const WRONG: [(&str, Option<(usize, Expected)>); 49] = [
     ("--agg count", None),
     (
         "--group g --agg count --where v>1.5 --workers 1 --decimals 1 --",
@@ -215,7 +215,73 @@ const WRONG: [(&str, Option<(usize, Expected)>); 32] = [
         "--where v>1 --group",
         Some((3, Expected::Value(Name::Group))),
     ),
+    // how fields are read
+    ("--separator ; --null NA,NULL,- --trim --agg count --", None),
+    ("--separator=tab --agg count --null=", None),
+    (
+        "--agg count --separator \" --trim",
+        Some((3, Expected::Value(Name::Separator))),
+    ),
+    (
+        "--separator=;; --agg count",
+        Some((0, Expected::Value(Name::Separator))),
+    ),
+    (
+        "--separator \u{a7} --agg count",
+        Some((1, Expected::Value(Name::Separator))),
+    ),
+    (
+        "--separator \n --agg count",
+        Some((1, Expected::Value(Name::Separator))),
+    ),
+    (
+        "--agg count --separator",
+        Some((3, Expected::Value(Name::Separator))),
+    ),
+    (
+        "--separator ; --agg count --separator tab",
+        Some((4, Expected::Other)),
+    ),
+    ("--agg count --null 1,2,3,4,5,6,7,8", None),
+    (
+        "--agg count --null 1,2,3,4,5,6,7,8,9",
+        Some((3, Expected::Value(Name::Null))),
+    ),
+    ("--null NA --agg count --null=-", Some((4, Expected::Other))),
+    // `--trim` has no value, so what comes after it is none
+    (
+        "--agg count --trim=yes",
+        Some((2, Expected::Value(Name::Trim))),
+    ),
+    (
+        "--trim=true --agg count",
+        Some((0, Expected::Value(Name::Trim))),
+    ),
+    ("--agg count --trim yes", Some((3, Expected::Name))),
+    ("--trim --agg count --trim", Some((3, Expected::Other))),
+    ("--trim -- --agg count", Some((2, Expected::Nothing))),
+    ("--agg --trim", Some((1, Expected::Value(Name::Agg)))),
 ];
+
+/// The longest query, with every option, has thirty words; one more word is not understood.
+#[test]
+fn longest_query(rt: HostRuntime) -> Result<(), Fail> {
+    let list = owned(rt.alloc(), LONGEST)?;
+    assert_eq!(rt; list.len(), 30);
+    assert!(rt; wrong_word(rt.alloc(), list.as_slice())?.is_none());
+    let mut longer = list;
+    longer.push(String::from_str(rt.alloc(), "more")?)?;
+    let wanted = Wrong {
+        at: 30,
+        expected: Expected::Nothing,
+    };
+    assert!(rt; wrong_word(rt.alloc(), longer.as_slice())? == Some(wanted));
+    Ok(())
+}
+
+/// All options of a query, each as often as it may be given.
+const LONGEST: &str =
+    "--group g --agg count --where v>1 --where v>1 --where v>1 --where v>1 --where v>1 --where v>1 --where v>1 --where v>1 --workers 1 --decimals 1 --separator ; --null NA --trim --";
 
 #[test]
 fn wrong_words(rt: HostRuntime) -> Result<(), Fail> {
@@ -229,11 +295,11 @@ fn wrong_words(rt: HostRuntime) -> Result<(), Fail> {
 }
 
 /// Words, and the line that they are answered with; none if they are a query.
-const REFUSED: [(&str, &str); 8] = [
+const REFUSED: [(&str, &str); 11] = [
     ("--agg count", ""),
     (
         "--agg count orders.csv",
-        "parstream: \"orders.csv\" is not understood: the options are --group, --agg, --where, --decimals, --workers, --order, --limit and --output; see parstream --help\n",
+        "parstream: \"orders.csv\" is not understood: the options are --group, --agg, --where, --decimals, --separator, --null, --trim, --workers, --order, --limit and --output; see parstream --help\n",
     ),
     (
         "--agg sum(v)",
@@ -258,6 +324,18 @@ const REFUSED: [(&str, &str); 8] = [
     (
         "--group g",
         "parstream: a word is missing at the end: --agg ITEMS is missing; see parstream --help\n",
+    ),
+    (
+        "--agg count --separator \"",
+        "parstream: \"\\\"\" is not understood: --separator takes one character of ASCII that is no quote and ends no line, or tab; see parstream --help\n",
+    ),
+    (
+        "--agg count --null",
+        "parstream: a word is missing at the end: --null takes one to eight texts between commas, at most 248 bytes in all; see parstream --help\n",
+    ),
+    (
+        "--agg count --trim=no",
+        "parstream: \"--trim=no\" is not understood: --trim takes no value; see parstream --help\n",
     ),
 ];
 

@@ -8,7 +8,7 @@ mod workers;
 
 use par_gather::{Gate, OpenGate, Ran, aggregate_alone, pargather};
 use par_io::{MemSink, MemSource};
-use par_stream::{Untold, WINDOW_BYTES, stream_table};
+use par_stream::{Separated, Untold, WINDOW_BYTES, stream_table};
 use std::alloc::{AllocError, Global};
 use std::process::Abort;
 use std::sync::Wait;
@@ -22,7 +22,7 @@ const USAGE: &str =
     "pargather: usage: pargather [--group COLUMNS] --agg ITEMS [--where FILTER] [--workers N] [--plan gather|hash] [--area-pages N]\n";
 
 const STREAM_USAGE: &str =
-    "parstream: usage: parstream [--group COLUMNS] --agg ITEMS [--where FILTER].. [--decimals PLACES] [--workers N]\n";
+    "parstream: usage: parstream [--group COLUMNS] --agg ITEMS [--where FILTER].. [--decimals PLACES] [--separator BYTE] [--null TEXTS] [--trim] [--workers N]\n";
 
 const LETTERS: Pieces<'static> = &[("g,v\na,1\nb,2\na,3\n", 1)];
 
@@ -110,7 +110,7 @@ fn same_front(line: &[u8]) -> Option<&[u8]> {
 /// A source that gives 3 bytes a call and sinks that take 5.
 #[derive(Drop)]
 struct Streams {
-    source: MemSource,
+    source: Separated<MemSource>,
     out: MemSink,
     err: MemSink,
 }
@@ -119,7 +119,11 @@ impl Streams {
     /// Streams over these bytes, of which these calls fail.
     fn over(alloc: Global, input: Vec<u8>, failing: Failing<'_>) -> Result<Streams, AllocError> {
         Ok(Streams {
-            source: MemSource::new(input, 3, Vec::from_slice(alloc, failing.reads)?),
+            source: Separated::new(MemSource::new(
+                input,
+                3,
+                Vec::from_slice(alloc, failing.reads)?,
+            )),
             out: sink(alloc, 100_000, failing.writes)?,
             err: sink(alloc, 1_000, failing.lines)?,
         })

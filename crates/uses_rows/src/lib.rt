@@ -12,6 +12,8 @@ mod keys;
 #[cfg(test)]
 mod plans;
 #[cfg(test)]
+mod readings;
+#[cfg(test)]
 mod records;
 #[cfg(test)]
 mod slow;

@@ -5,6 +5,7 @@ ghost use Rattle.std.specs.Io.KnownBytes.{IsAtEnd};
 ghost use Rattle.row_windows.specs.Seams.{IsSeam};
 ghost use Rattle.row_windows.specs.Stretch.{Fills};
 
+use csv_rows::Reading;
 use par_io::{MemSource, Source};
 use row_windows::{Window, WindowAnswer};
 use std::alloc::Global;
@@ -31,9 +32,9 @@ fn next_window<S: Source>(
 /// The lines of each window of a source, with a bar after them. Ten windows at most.
 fn windows_of(alloc: Global, source: &mut MemSource, size: usize) -> Result<Vec<u8>, WindowAnswer> {
     let mut text = Vec::new(alloc);
-    let mut before = Window::new(alloc);
+    let mut before = Window::new(alloc, &Reading::plain());
     for _ in 0..10 {
-        let mut next = Window::new(alloc);
+        let mut next = Window::new(alloc, &Reading::plain());
         let last = next_window(&before, &mut next, source, size)?;
         if text.extend_from_slice(next.table()).is_err() || text.push(b'|').is_err() {
             return Err(WindowAnswer::Memory);

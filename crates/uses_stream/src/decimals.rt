@@ -118,7 +118,7 @@ const ROWS: [Row; 18] = [
 ];
 
 pub(crate) const USAGE: &str =
-    ": usage: parstream [--group COLUMNS] --agg ITEMS [--where FILTER].. [--decimals PLACES] [--workers N]\n";
+    ": usage: parstream [--group COLUMNS] --agg ITEMS [--where FILTER].. [--decimals PLACES] [--separator BYTE] [--null TEXTS] [--trim] [--workers N]\n";
 
 /// Whether the answer to a row is the one that it has, for each of several numbers of workers.
 pub(crate) fn is_answered<R: Threads + Wait + Sync>(

@@ -11,6 +11,8 @@ mod filters;
 #[cfg(test)]
 mod lines;
 #[cfg(test)]
+mod separators;
+#[cfg(test)]
 mod shares;
 #[cfg(test)]
 mod windows;

@@ -4,7 +4,7 @@ ghost use Rattle.std.specs.Prelude.{◌≡◌, ◌<◌, ◌≤◌, ◌^◌, ℕ,
 ghost use Rattle.partial_agg.specs.Groups.{AreGroups};
 ghost use Rattle.split_run.specs.Pieces.{AreUnder, HaveColumns, rows_of};
 
-use csv_rows::rows;
+use csv_rows::{Reading, rows_as};
 use par_io::MemSource;
 use par_model::BoundPlan;
 use partial_agg::{BlockAnswer, GroupMap};
@@ -48,7 +48,7 @@ fn shared_groups<R: Threads + Wait + Sync>(
 /// A whole text as one window.
 fn whole(alloc: Global, text: &[u8]) -> Result<Window, Fail> {
     let mut source = MemSource::new(Vec::from_slice(alloc, text)?, text.len(), Vec::new(alloc));
-    let mut window = Window::new(alloc);
+    let mut window = Window::new(alloc, &Reading::plain());
     match window.fill(&mut source, text.len().saturating_add(1)) {
         Ok(true) => Ok(window),
         _ => Err("one window".into()),
@@ -73,7 +73,8 @@ fn counted<R: Threads + Wait + Sync>(
         .ok_or("a plan")?;
     let mut pieces = Vec::new(alloc);
     pieces.push(whole(alloc, text)?)?;
-    let store = rows(alloc, pieces.as_slice()[0].table())
+    let piece = &pieces.as_slice()[0];
+    let store = rows_as(alloc, piece.reading(), piece.table())
         .ok()
         .ok_or("a store")?;
     let Ok(bound) = plan.bind(&store) else {

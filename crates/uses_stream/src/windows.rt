@@ -2,7 +2,7 @@
 
 use group_query::aggregate_alone;
 use par_io::{MemSink, MemSource};
-use par_stream::{Untold, stream_table};
+use par_stream::{Separated, Untold, stream_table};
 use std::alloc::{AllocError, Global};
 use std::sync::Wait;
 use std::test::Fail;
@@ -50,12 +50,13 @@ pub(crate) fn answered<R: Threads + Wait + Sync>(
     rt: &R,
     alloc: Global,
     words: &str,
-    mut source: MemSource,
+    source: MemSource,
     mut out: MemSink,
     size: usize,
 ) -> Result<Answer, AllocError> {
     let words = words_of(alloc, words)?;
     let mut err = sink(alloc)?;
+    let mut source = Separated::new(source);
     let status = stream_table(
         rt,
         alloc,

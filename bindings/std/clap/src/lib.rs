@@ -57,14 +57,15 @@ impl From<ErrorKind> for Error {
     }
 }
 
-/// What an option does with a value: it is the only one, or comes after those before it.
+/// What an option does with a value: it is the only one, or comes after those before it; or the option takes none.
 #[derive(Clone, Copy, Debug, PartialEq, Eq)]
 pub enum ArgAction {
     Set,
     Append,
+    SetTrue,
 }
 
-/// An option that takes one value.
+/// An option that takes one value, or none.
 #[derive(Debug)]
 pub struct Arg<'a> {
     id: &'a str,
@@ -145,10 +146,14 @@ impl<'a> Command<'a> {
                 };
             }
             let (at, attached) = self.option(word)?;
-            if self.args[at].action == ArgAction::Set && !values[at].is_empty() {
+            if self.args[at].action != ArgAction::Append && !values[at].is_empty() {
                 return Err(ErrorKind::ArgumentConflict.into());
             }
-            let value = attached.or_else(|| rest.next().filter(|next| is_value(next)));
+            let value = match self.args[at].action {
+                ArgAction::SetTrue if attached.is_some() => None,
+                ArgAction::SetTrue => Some("true"),
+                ArgAction::Set | ArgAction::Append => attached.or_else(|| rest.next().filter(|next| is_value(next))),
+            };
             values[at].push(value.ok_or(ErrorKind::InvalidValue)?)?;
         }
         self.matches(values)
@@ -204,6 +209,11 @@ impl<'a> ArgMatches<'a> {
         self.get_strs(id)?.first().copied()
     }
 
+    /// Whether an option that takes no value is given.
+    pub fn get_flag(&self, id: &str) -> bool {
+        self.get_strs(id).is_some()
+    }
+
     /// The values of an option, if it is given.
     pub fn get_strs(&self, id: &str) -> Option<&[&'a str]> {
         let at = self.args.iter().position(|arg| arg.id == id)?;
@@ -253,6 +263,23 @@ mod tests {
         assert_eq!(matches.get_strs("where"), Some(["a", "b", ""].as_slice()));
         assert_eq!(matches.get_strs("agg"), Some(["c"].as_slice()));
         assert_eq!(matches.get_str("where"), Some("a"));
+    }
+
+    #[test]
+    fn takes_flags() {
+        let parsed = |words: &'static [&'static str]| {
+            let command = Command::new(Global, "parstream")
+                .no_binary_name(true)
+                .arg(Arg::new(Global, "trim").long("trim").action(ArgAction::SetTrue))
+                .unwrap();
+            command.try_get_matches_from(words).map(|matches| matches.get_flag("trim")).map_err(|error| error.kind())
+        };
+        assert_eq!(parsed(&[]), Ok(false));
+        assert_eq!(parsed(&["--trim"]), Ok(true));
+        assert_eq!(parsed(&["--trim", "--trim"]), Err(ErrorKind::ArgumentConflict));
+        assert_eq!(parsed(&["--trim=true"]), Err(ErrorKind::InvalidValue));
+        assert_eq!(parsed(&["--trim="]), Err(ErrorKind::InvalidValue));
+        assert_eq!(parsed(&["--trim", "true"]), Err(ErrorKind::UnknownArgument));
     }
 
     #[test]

@@ -4,6 +4,7 @@ use Rattle.std.specs.Io.KnownBytes.{Appends}
 use Rattle.result_text.specs.Pieces.{joined}
 use Rattle.par_stream.specs.Answers.{IsTableText}
 use Rattle.stream_groups.specs.Reading.{AreGroupsOver}
+use Rattle.stream_groups.specs.Ways.{of_bytes}
 use Rattle.stream_groups.specs.declared.stop.Stop.{Stop}
 use Rattle.stream_groups.specs.declared.stop.Stop.TheVariants as stop
 use Rattle.par_stream.proofs.Tables.{IfErr-each, part_written, table_written}
@@ -23,7 +24,7 @@ returns-in_err-write_each-clause-part g c =
     let failed = c.in_err-write_each.ensures.prefix in
     let Wrote : List (Vec ℕ) → Type 0 = λ pieces. Appends old new (take failed.0 (joined pieces)) in
     let wrote = subst Wrote c.deref.ensures.value failed.1 in
-    IfErr-each c.from_residual-in_err-write_each.result (λ (why : Stop). why ≡ stop.WriteFault → (from : Option (List ℕ)) → AreGroupsOver query from c.args.read
+    IfErr-each c.from_residual-in_err-write_each.result (λ (why : Stop). why ≡ stop.WriteFault → (from : Option (List ℕ)) → AreGroupsOver (of_bytes query.reading) query from c.args.read
     → IfSome from (λ bytes. (text : List ℕ) × IsTableText (Some query) bytes text × (n : ℕ) × Appends old new (take n text)))
     (λ why _ from over. part_written query c.args.read (joined c.in_ok-pieces.pieces.items) from old new failed.0 c.in_ok-pieces.ensures over wrote)
 

@@ -1,6 +1,7 @@
 use Rattle.std.proofs.Common.{rules, ◌≡◌, ◌∙◌, [], ℕ, List, Option, Some, None, ap, codes, false, map, refl, string_bytes}
 use Rattle.std.specs.Borrow.{Bor}
-use Rattle.std.specs.Prelude.{option_map, unwrap_or}
+use Rattle.std.specs.Option.{option_map_or}
+use Rattle.std.specs.Prelude.{bytes_eq, option_map, unwrap_or}
 use Rattle.clap.proofs.WalkLemmas.{first_value-rows, raw_values-rows}
 use Rattle.clap.specs.Words.{App, all_of, app_of, first_of, found_of, is_simple_and_free}
 use Rattle.plan_spec.specs.Options.{is_command_line, parstream_command, value_of, values_of}
@@ -32,8 +33,19 @@ returns-clause-filters c =
 pub returns-clause-decimals : goal.returns-clause-decimals
 returns-clause-decimals c = c.get_str-3.ensures ∙ first_value-rows (found_of c.in_ok-matches.matches) (codes "decimals") ∙ ap (first_of (codes "decimals")) c.in_ok-matches.ensures.rows ∙ ap (λ (a : App). value_of a (codes "decimals") (map string_bytes c.args.words.now)) c.in-Ok.ensures
 
+pub returns-clause-separator : goal.returns-clause-separator
+returns-clause-separator c = c.get_str-4.ensures ∙ first_value-rows (found_of c.in_ok-matches.matches) (codes "separator") ∙ ap (first_of (codes "separator")) c.in_ok-matches.ensures.rows ∙ ap (λ (a : App). value_of a (codes "separator") (map string_bytes c.args.words.now)) c.in-Ok.ensures
+
+pub returns-clause-nulls : goal.returns-clause-nulls
+returns-clause-nulls c = c.get_str-5.ensures ∙ first_value-rows (found_of c.in_ok-matches.matches) (codes "null") ∙ ap (first_of (codes "null")) c.in_ok-matches.ensures.rows ∙ ap (λ (a : App). value_of a (codes "null") (map string_bytes c.args.words.now)) c.in-Ok.ensures
+
+pub returns-clause-trim : goal.returns-clause-trim
+returns-clause-trim c =
+    let told = c.get_str-6.ensures ∙ first_value-rows (found_of c.in_ok-matches.matches) (codes "trim") ∙ ap (first_of (codes "trim")) c.in_ok-matches.ensures.rows ∙ ap (λ (a : App). value_of a (codes "trim") (map string_bytes c.args.words.now)) c.in-Ok.ensures in
+    c.is_true.ensures ∙ ap (λ (o : Option (List ℕ)). option_map_or (bytes_eq (codes "true")) o false) told
+
 pub returns-clause-workers : goal.returns-clause-workers
-returns-clause-workers c = c.get_str-4.ensures ∙ first_value-rows (found_of c.in_ok-matches.matches) (codes "workers") ∙ ap (first_of (codes "workers")) c.in_ok-matches.ensures.rows ∙ ap (λ (a : App). value_of a (codes "workers") (map string_bytes c.args.words.now)) c.in-Ok.ensures
+returns-clause-workers c = c.get_str-7.ensures ∙ first_value-rows (found_of c.in_ok-matches.matches) (codes "workers") ∙ ap (first_of (codes "workers")) c.in_ok-matches.ensures.rows ∙ ap (λ (a : App). value_of a (codes "workers") (map string_bytes c.args.words.now)) c.in-Ok.ensures
 
 pub returns-in_err-matches-clause-refuses : goal.returns-in_err-matches-clause-refuses
 returns-in_err-matches-clause-refuses c = λ h.

@@ -1,7 +1,6 @@
 use Rattle.std.proofs.Common.{◌≡◌, ◌<◌, ◌≤◌, ◌+◌, ◌*◌, ◌∷◌, ◌∙◌, [], ℕ, All, List, ap, arith, drop, length, length-drop, refl, subst, sym, take}
 use Rattle.std.proofs.lemmas.List.{take_all}
 use Rattle.std.proofs.lemmas.List.Elements.{All-nil}
-use Rattle.csv_rows.specs.Records.{records_of}
 use Rattle.par_model.specs.Columns.{HasColumns}
 use Rattle.par_model.specs.declared.refusal.Refusal.{Refusal}
 use Rattle.partial_agg.specs.Rows.{IsAccepted, header_width}
@@ -9,7 +8,7 @@ use Rattle.row_blocks.specs.Blocks.{Table}
 use Rattle.row_windows.specs.Stretch.{Stretch}
 use Rattle.split_run.specs.Causes.{AllAccepted, IsFirstRefused}
 use Rattle.split_run.specs.Pieces.{AreUnder, piece_records, piece_rows, rows_of}
-use Rattle.split_run.proofs.FirstPiece.{accepted_next, count_next, first_here}
+use Rattle.split_run.proofs.FirstPiece.{accepted_next, count_next, first_here, read_piece}
 use Rattle.split_run.proofs.refused.first_in_pieces.Goals as goal
 
 pub loop-piece-init : goal.loop-piece-init
@@ -25,7 +24,7 @@ first_refused-requires c =
     let plan = c.args.plan.now in
     let pieces = c.args.pieces.now in
     let i = c.loop-piece.piece-index in
-    let same : c.in-Ok.store ≡ piece_records p = c.in-Ok.ensures.records ∙ ap records_of c.table.ensures in
+    let same : c.in-Ok.store ≡ piece_records p = c.in-Ok.ensures.records ∙ read_piece p _ _ c.reading.ensures c.table.ensures in
     let here : HasColumns plan (header_width (piece_records p)) = subst (λ (q : Stretch). HasColumns plan (header_width (piece_records q))) (sym c.piece-item.is) (c.requires.columns i p c.loop-piece-test.true) in
     record { columns = subst (λ (l : Table). HasColumns plan (header_width l)) (sym same) here }
 
@@ -39,7 +38,7 @@ returns-in-Some-clause-first c = λ header under.
     let p = c.piece-item.result in
     let i = c.loop-piece.piece-index in
     let why : Refusal = record { cause = c.in-Some.field-0-1.cause; item = c.in-Some.field-0-1.item } in
-    let same : c.in-Ok.store ≡ piece_records p = c.in-Ok.ensures.records ∙ ap records_of c.table.ensures in
+    let same : c.in-Ok.store ≡ piece_records p = c.in-Ok.ensures.records ∙ read_piece p _ _ c.reading.ensures c.table.ensures in
     let f : IsFirstRefused plan (piece_records p) c.in-Some.row why = subst (λ (l : Table). IsFirstRefused plan l c.in-Some.row why) same c.in-Some.ensures.first in
     let first = first_here plan pieces i p c.loop-piece-test.true c.piece-item.is c.in-Some.row why c.loop-piece.invariant.accepted f header under in
     subst (λ n. IsFirstRefused plan (header ∷ rows_of pieces) (n + c.in-Some.row) why) (sym c.loop-piece.invariant.count) first
@@ -56,7 +55,7 @@ loop-piece-preserved c =
     let pieces = c.args.pieces.now in
     let p = c.piece-item.result in
     let i = c.loop-piece.piece-index in
-    let same : c.in-Ok.store ≡ piece_records p = c.in-Ok.ensures.records ∙ ap records_of c.table.ensures in
+    let same : c.in-Ok.store ≡ piece_records p = c.in-Ok.ensures.records ∙ read_piece p _ _ c.reading.ensures c.table.ensures in
     let fine : All (IsAccepted plan (header_width c.in-Ok.store)) (drop 1 c.in-Ok.store) = c.in-None.ensures.none refl in
     let here : All (IsAccepted plan (header_width (piece_records p))) (piece_rows p) = subst (λ (l : Table). All (IsAccepted plan (header_width l)) (drop 1 l)) same fine in
     let more = count_next plan pieces i p c.loop-piece-test.true c.piece-item.is in

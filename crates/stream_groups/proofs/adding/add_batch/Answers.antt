@@ -25,7 +25,7 @@ add_pieces-requires-clause-few g c κs within = omega (arith, c.requires.many, c
 -- ---- the reason, by the pieces of the batch
 
 pub stop_of_block-stop-requires-clause-lines : goal.stop_of_block-stop-requires-clause-lines
-stop_of_block-stop-requires-clause-lines g c = subst (All IsLined) (sym c.as_slice-pieces.ensures.value) c.requires.lines
+stop_of_block-stop-requires-clause-lines g c = subst (All (IsLined c.args.plan.now.reading)) (sym c.as_slice-pieces.ensures.value) c.requires.lines
 
 pub stop_of_block-stop-requires-clause-few : goal.stop_of_block-stop-requires-clause-few
 stop_of_block-stop-requires-clause-few g c = subst (λ (ws : List Stretch). c.args.batch.now.before + feeds_of ws ≤ 2 ^ 60) (sym c.as_slice-pieces.ensures.value) c.requires.feeds
@@ -40,8 +40,8 @@ returns-in-Err-clause-why g c =
     let same = c.as_slice-pieces.ensures.value in
     let said = c.stop_of_block-stop.result in
     let cause : IsFirstOfAll bound pieces c.in-Err.why = subst (λ (ws : List Stretch). IsFirstOfAll bound ws c.in-Err.why) same c.in-Err.ensures.cause in
-    let restated : Restates query.plan bound pieces added.count batch.before c.in-Err.why said =
-    subst (λ (ws : List Stretch). Restates query.plan bound ws added.count batch.before c.in-Err.why said) same c.stop_of_block-stop.ensures in
+    let restated : Restates query.reading query.plan bound pieces added.count batch.before c.in-Err.why said =
+    subst (λ (ws : List Stretch). Restates query.reading query.plan bound ws added.count batch.before c.in-Err.why said) same c.stop_of_block-stop.ensures in
     λ from left header rows is under has begins part.
     refused_tells query header bound is from left added.count rows batch.before pieces batch.next.rest c.in-Err.why said has.count c.requires.few c.in-Err.ensures.low begins part c.requires.lines
     (all_accepted bound (length header) rows added.gathered has.groups) under (cause header under) restated

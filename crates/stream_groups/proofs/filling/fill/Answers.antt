@@ -6,7 +6,7 @@ use Rattle.stream_groups.proofs.filling.fill.Goals as goal
 pub returns-clause-filled : goal.returns-clause-filled
 returns-clause-filled g c =
     let e = c.fill-filled.ensures in
-    is_filled (g.S.Source.left c.args.source.now) (g.S.Source.left c.fill-filled.new.source) c.args.window.now c.fill-filled.new.self c.fill-filled.result e.header e.reads e.last e.seam
+    is_filled (g.S.Source.left c.args.source.now) (g.S.Source.left c.fill-filled.new.source) c.args.window.now c.fill-filled.new.self c.fill-filled.result e.header e.reading e.reads e.last e.seam
 
 pub returns-clause-why : goal.returns-clause-why
 returns-clause-why g c =

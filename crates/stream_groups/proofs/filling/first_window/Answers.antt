@@ -1,6 +1,8 @@
-use Rattle.std.proofs.Common.{inl, ◌≡◌, ◌<◌, ◌+◌, ◌∷◌, ◌∙◌, rules, arith, [], ℕ, List, Err, ap, length, refl, subst, sym}
+use Rattle.std.proofs.Common.{inl, ◌≡◌, ◌<◌, ◌+◌, ◌++◌, ◌∷◌, ◌∙◌, rules, arith, [], ℕ, List, Err, ap, length, refl, subst, sym}
 use Rattle.std.proofs.lemmas.Result.{IfErr-weaker, IfOk-weaker}
-use Rattle.csv_rows.specs.Records.{record_at, records_of}
+use Rattle.csv_rows.specs.Readings.{records_as}
+use Rattle.csv_rows.specs.Records.{record_at}
+use Rattle.csv_rows.specs.declared.cleaning.Reading.{Reading}
 use Rattle.par_io.specs.Faults.{Rose}
 use Rattle.row_blocks.specs.Blocks.{Table}
 use Rattle.row_windows.specs.Stretch.{Stretch}
@@ -8,9 +10,11 @@ use Rattle.split_run.specs.Pieces.{piece_records}
 use Rattle.text_lines.specs.Feeds.{count_feeds}
 use Rattle.text_lines.proofs.Counts.{count_append}
 use Rattle.stream_groups.specs.Begins.{IsLined}
-use Rattle.stream_groups.specs.Reading.{HasHeader, HasPart, HasRead, Reaches}
+use Rattle.stream_groups.specs.Reading.{HasAll, HasHeader, HasPart, HasRead, Reaches}
 use Rattle.stream_groups.specs.Stops.{Tells}
+use Rattle.stream_groups.specs.Ways.{of_text}
 use Rattle.stream_groups.specs.declared.stop.Stop.TheVariants as stop
+use Rattle.stream_groups.proofs.Refusals.{none_tells}
 use Rattle.stream_groups.proofs.Streams.{first_has, first_header, first_part, parted_begins}
 use Rattle.stream_groups.proofs.Takes.{takes_none, takes_then}
 use Rattle.stream_groups.proofs.Windows.{filled, read_nothing, window_fault, window_no_write, window_tells}
@@ -19,12 +23,14 @@ use Rattle.stream_groups.proofs.filling.first_window.Goals as goal
 pub loop-init : goal.loop-init
 loop-init g c =
     let left = g.S.Source.left c.args.source.now in
+    let reading = c.args.reading.now in
     record {
       can_next = tt;
       finite = tt;
+      reading_is = c.new-window.ensures.reading;
       header = c.new-window.ensures.header;
       lines = c.new-window.ensures.lines;
-      read = subst (HasRead left left [] 0) (sym c.new-window.ensures.rest) (read_nothing left);
+      read = subst (HasRead reading left left [] 0) (sym c.new-window.ensures.rest) (read_nothing reading left);
       few = omega arith;
       faults = omega arith;
       taken = takes_none left (g.S.Source.faults c.args.source.now) c.args.taken.now;
@@ -36,7 +42,7 @@ pub returns-in-Err-clause-why : goal.returns-in-Err-clause-why
 returns-in-Err-clause-why g c =
     let old = c.loop.source in
     let new = c.fill.new.source in
-    λ query. window_tells (g.S.Source.left old) (g.S.Source.left new) (g.S.Source.faults old) (g.S.Source.faults new) c.loop.window c.fill.new.window query (g.S.Source.left c.args.source.now) [] c.loop.feeds c.loop.feeds 0
+    λ query. window_tells (g.S.Source.left old) (g.S.Source.left new) (g.S.Source.faults old) (g.S.Source.faults new) c.loop.window c.fill.new.window c.args.reading.now query (g.S.Source.left c.args.source.now) [] c.loop.feeds c.loop.feeds 0
     c.rest.result.now c.in-Err.why c.stop_of_window.result (inl refl) c.loop.invariant.read refl (λ _. refl) c.rest.ensures c.in-Err.ensures.why c.stop_of_window.ensures
 
 pub returns-in-Err-clause-read_fault : goal.returns-in-Err-clause-read_fault
@@ -59,7 +65,7 @@ returns-in-Ok-part_header-clause-header g c =
     let header = c.in-Ok-part_header.header in
     let parted = c.in-Ok-part_header.ensures in
     let is : HasHeader header now c.in-Ok.is_last =
-    first_header header parted.first.0 c.fill.new.window now c.in-Ok.is_last parted.one parted.record parted.first.1 parted.same parted.cut parted.rest c.in-Ok.ensures.filled.seam in
+    first_header c.fill.new.window.reading header parted.first.0 c.fill.new.window now c.in-Ok.is_last c.part_header.ensures.reading parted.one parted.record parted.first.1 parted.same parted.cut parted.rest c.in-Ok.ensures.filled.seam in
     IfOk-weaker c.first_of.result _ _ (λ f first. first_has (λ w h last _. HasHeader h w last) now header c.in-Ok.is_last c.loop.feeds f first is) c.first_of.ensures.first
 
 pub returns-in-Ok-part_header-clause-reaches : goal.returns-in-Ok-part_header-clause-reaches
@@ -72,15 +78,18 @@ returns-in-Ok-part_header-clause-reaches g c =
     let last = c.in-Ok.is_last in
     let f = c.in-Ok.ensures.filled in
     let parted = c.in-Ok-part_header.ensures in
-    let reaches : Reaches from new (records_of full.lines) (c.loop.feeds + count_feeds full.lines) full.rest last =
-    filled from old new c.loop.window.rest full.lines full.rest [] c.loop.feeds last c.loop.invariant.read f.reads f.last f.seam f.line in
+    let reading = c.args.reading.now in
+    let now_so : now.reading ≡ reading = c.part_header.ensures.reading ∙ (f.like.reading ∙ c.loop.invariant.reading_is) in
+    let reaches : Reaches reading from new (records_as reading full.lines) (c.loop.feeds + count_feeds full.lines) full.rest last =
+    filled reading from old new c.loop.window.rest full.lines full.rest [] c.loop.feeds last c.loop.invariant.read f.reads f.last f.seam f.line in
     let count : c.loop.feeds + count_feeds full.lines ≡ (c.loop.feeds + count_feeds now.header) + count_feeds now.lines = omega (arith, ap count_feeds parted.same, count_append now.header now.lines) in
-    let here : Reaches from new (piece_records now) ((c.loop.feeds + count_feeds now.header) + count_feeds now.lines) now.rest last =
-    subst (λ (rest : List ℕ). Reaches from new (piece_records now) ((c.loop.feeds + count_feeds now.header) + count_feeds now.lines) rest last) (sym parted.rest)
-    (subst (λ (n : ℕ). Reaches from new (piece_records now) n full.rest last) count
-    (subst (λ (text : List ℕ). Reaches from new (records_of text) (c.loop.feeds + count_feeds full.lines) full.rest last) (sym parted.same) reaches)) in
+    let here : Reaches reading from new (piece_records now) ((c.loop.feeds + count_feeds now.header) + count_feeds now.lines) now.rest last =
+    subst (λ (rest : List ℕ). Reaches reading from new (piece_records now) ((c.loop.feeds + count_feeds now.header) + count_feeds now.lines) rest last) (sym parted.rest)
+    (subst (λ (n : ℕ). Reaches reading from new (piece_records now) n full.rest last) count
+    (subst (λ (r : Reading). Reaches reading from new (records_as r (now.header ++ now.lines)) (c.loop.feeds + count_feeds full.lines) full.rest last) (sym now_so)
+    (subst (λ (text : List ℕ). Reaches reading from new (records_as reading text) (c.loop.feeds + count_feeds full.lines) full.rest last) (sym parted.same) reaches))) in
     IfOk-weaker c.first_of.result _ _ (λ f first.
-    first_has (λ w _ last feeds. Reaches from new (piece_records w) (feeds + count_feeds w.lines) w.rest last) now c.in-Ok-part_header.header last c.loop.feeds f first here) c.first_of.ensures.first
+    first_has (λ w _ last feeds. Reaches reading from new (piece_records w) (feeds + count_feeds w.lines) w.rest last) now c.in-Ok-part_header.header last c.loop.feeds f first here) c.first_of.ensures.first
 
 pub returns-in-Ok-part_header-clause-part : goal.returns-in-Ok-part_header-clause-part
 returns-in-Ok-part_header-clause-part g c =
@@ -92,15 +101,28 @@ returns-in-Ok-part_header-clause-part g c =
     let header = c.in-Ok-part_header.header in
     let f = c.in-Ok.ensures.filled in
     let parted = c.in-Ok-part_header.ensures in
-    let here : 0 < length now.lines → HasPart from new (record_at header 0 ∷ []) (c.loop.feeds + count_feeds now.header) (now ∷ []) now.rest = λ some.
-    first_part header c.loop.window full now c.loop.feeds parted.one parted.record parted.same parted.rest f.line (parted.front some) (parted_begins now parted.lined some) from old new c.in-Ok.is_last c.loop.invariant.read f.reads f.last f.seam in
+    let reading = c.args.reading.now in
+    let so : full.reading ≡ reading = f.like.reading ∙ c.loop.invariant.reading_is in
+    let record_is : header ≡ records_as reading now.header = parted.record ∙ ap (λ (r : Reading). records_as r now.header) so in
+    let here : 0 < length now.lines → HasPart reading from new (record_at header 0 ∷ []) (c.loop.feeds + count_feeds now.header) (now ∷ []) now.rest = λ some.
+    first_part reading header c.loop.window full now c.loop.feeds parted.one record_is parted.same parted.rest f.line (parted.front some) (parted_begins full.reading now parted.lined some) from old new c.in-Ok.is_last c.loop.invariant.read f.reads f.last f.seam in
     IfOk-weaker c.first_of.result _ _ (λ f first.
-    first_has (λ w h _ feeds. 0 < length w.lines → HasPart from new (record_at h 0 ∷ []) feeds (w ∷ []) w.rest) now header c.in-Ok.is_last c.loop.feeds f first here) c.first_of.ensures.first
+    first_has (λ w h _ feeds. 0 < length w.lines → HasPart reading from new (record_at h 0 ∷ []) feeds (w ∷ []) w.rest) now header c.in-Ok.is_last c.loop.feeds f first here) c.first_of.ensures.first
 
 pub returns-in-Ok-part_header-clause-lined : goal.returns-in-Ok-part_header-clause-lined
 returns-in-Ok-part_header-clause-lined g c =
-    IfOk-weaker c.first_of.result _ _ (λ f first.
-    first_has (λ w _ _ _. IsLined w) c.part_header.new.window c.in-Ok-part_header.header c.in-Ok.is_last c.loop.feeds f first c.in-Ok-part_header.ensures.lined) c.first_of.ensures.first
+    let reading = c.args.reading.now in
+    let now = c.part_header.new.window in
+    let so : c.fill.new.window.reading ≡ reading = c.in-Ok.ensures.filled.like.reading ∙ c.loop.invariant.reading_is in
+    let lined : IsLined reading now = subst (λ (r : Reading). IsLined r now) so c.in-Ok-part_header.ensures.lined in
+    IfOk-weaker c.first_of.result _ _ (λ f first. first_has (λ w _ _ _. IsLined reading w) now c.in-Ok-part_header.header c.in-Ok.is_last c.loop.feeds f first lined) c.first_of.ensures.first
+
+pub returns-in-Ok-part_header-clause-reading : goal.returns-in-Ok-part_header-clause-reading
+returns-in-Ok-part_header-clause-reading g c =
+    let reading = c.args.reading.now in
+    let now = c.part_header.new.window in
+    let so : now.reading ≡ reading = c.part_header.ensures.reading ∙ (c.in-Ok.ensures.filled.like.reading ∙ c.loop.invariant.reading_is) in
+    IfOk-weaker c.first_of.result _ _ (λ f first. first_has (λ w _ _ _. w.reading ≡ reading) now c.in-Ok-part_header.header c.in-Ok.is_last c.loop.feeds f first so) c.first_of.ensures.first
 
 pub returns-in-Ok-part_header-clause-few : goal.returns-in-Ok-part_header-clause-few
 returns-in-Ok-part_header-clause-few g c = IfOk-weaker c.first_of.result _ _ (λ f first. first.few) c.first_of.ensures.first
@@ -108,7 +130,7 @@ returns-in-Ok-part_header-clause-few g c = IfOk-weaker c.first_of.result _ _ (λ
 pub returns-in-Ok-part_header-clause-why : goal.returns-in-Ok-part_header-clause-why
 returns-in-Ok-part_header-clause-why g c =
     let from = g.S.Source.left c.args.source.now in
-    IfErr-weaker c.first_of.result _ _ (λ why memory query. subst (Tells query from) (sym memory) tt) c.first_of.ensures.why
+    IfErr-weaker c.first_of.result _ _ (λ why memory query. subst (Tells (of_text c.args.reading.now) query from) (sym memory) tt) c.first_of.ensures.why
 
 pub returns-in-Ok-part_header-clause-read_fault : goal.returns-in-Ok-part_header-clause-read_fault
 returns-in-Ok-part_header-clause-read_fault g c =
@@ -124,6 +146,21 @@ returns-in-Ok-part_header-clause-end g c =
 
 -- ---- one without a record
 
+pub returns-in-Err-NoHeader-clause-why : goal.returns-in-Err-NoHeader-clause-why
+returns-in-Err-NoHeader-clause-why g c =
+    let from = g.S.Source.left c.args.source.now in
+    let old = g.S.Source.left c.loop.source in
+    let new = g.S.Source.left c.fill.new.source in
+    let full = c.fill.new.window in
+    let f = c.in-Ok.ensures.filled in
+    let reading = c.args.reading.now in
+    let so : full.reading ≡ reading = f.like.reading ∙ c.loop.invariant.reading_is in
+    let none : records_as reading full.lines ≡ [] = ap (λ (r : Reading). records_as r full.lines) (sym so) ∙ c.in-Err-NoHeader.ensures.no_header (ap Err c.in-Err-NoHeader.field-0-is) in
+    let reaches : Reaches reading from new (records_as reading full.lines) (c.loop.feeds + count_feeds full.lines) full.rest c.in-Ok.is_last =
+    filled reading from old new c.loop.window.rest full.lines full.rest [] c.loop.feeds c.in-Ok.is_last c.loop.invariant.read f.reads f.last f.seam f.line in
+    let all : HasAll reading from [] = subst (HasAll reading from) none (reaches.all c.if-is_last.true) in
+    λ query. none_tells reading query from all
+
 pub loop-preserved : goal.loop-preserved
 loop-preserved g c =
     let from = g.S.Source.left c.args.source.now in
@@ -135,16 +172,20 @@ loop-preserved g c =
     let next = c.in_ok-window.ensures in
     let feeds : c.in_ok-feeds.feeds ≡ c.loop.feeds + count_feeds full.lines =
     c.in_ok-feeds.ensures.more ∙ ap (λ (l : List ℕ). c.loop.feeds + count_feeds l) (c.lines.ensures ∙ ap (λ (w : Stretch). w.lines) same) in
-    let none : records_of full.lines ≡ [] = c.in-Err-NoHeader.ensures.no_header (ap Err c.in-Err-NoHeader.field-0-is) in
-    let reaches : Reaches from new (records_of full.lines) (c.loop.feeds + count_feeds full.lines) full.rest c.in-Ok.is_last =
-    filled from old new c.loop.window.rest full.lines full.rest [] c.loop.feeds c.in-Ok.is_last c.loop.invariant.read f.reads f.last f.seam f.line in
-    let read : HasRead from new [] (c.loop.feeds + count_feeds full.lines) full.rest = subst (λ (l : Table). HasRead from new l (c.loop.feeds + count_feeds full.lines) full.rest) none (reaches.more c.if-is_last.false) in
-    let header : c.in_ok-window.window.header ≡ [] = next.header ∙ (ap (λ (w : Stretch). w.header) same ∙ (f.header ∙ c.loop.invariant.header)) in
+    let reading = c.args.reading.now in
+    let so : full.reading ≡ reading = f.like.reading ∙ c.loop.invariant.reading_is in
+    let none : records_as reading full.lines ≡ [] = ap (λ (r : Reading). records_as r full.lines) (sym so) ∙ c.in-Err-NoHeader.ensures.no_header (ap Err c.in-Err-NoHeader.field-0-is) in
+    let reaches : Reaches reading from new (records_as reading full.lines) (c.loop.feeds + count_feeds full.lines) full.rest c.in-Ok.is_last =
+    filled reading from old new c.loop.window.rest full.lines full.rest [] c.loop.feeds c.in-Ok.is_last c.loop.invariant.read f.reads f.last f.seam f.line in
+    let read : HasRead reading from new [] (c.loop.feeds + count_feeds full.lines) full.rest = subst (λ (l : Table). HasRead reading from new l (c.loop.feeds + count_feeds full.lines) full.rest) none (reaches.more c.if-is_last.false) in
+    let header : c.in_ok-window.window.header ≡ [] = next.like.header ∙ (ap (λ (w : Stretch). w.header) same ∙ (f.like.header ∙ c.loop.invariant.header)) in
+    let next_so : c.in_ok-window.window.reading ≡ reading = next.like.reading ∙ (ap (λ (w : Stretch). w.reading) same ∙ so) in
     let rest : c.in_ok-window.window.rest ≡ full.rest = next.rest ∙ ap (λ (w : Stretch). w.rest) same in
-    let left : HasRead from new [] c.in_ok-feeds.feeds c.in_ok-window.window.rest = subst (HasRead from new [] c.in_ok-feeds.feeds) (sym rest) (subst (λ (n : ℕ). HasRead from new [] n full.rest) (sym feeds) read) in
+    let left : HasRead reading from new [] c.in_ok-feeds.feeds c.in_ok-window.window.rest = subst (HasRead reading from new [] c.in_ok-feeds.feeds) (sym rest) (subst (λ (n : ℕ). HasRead reading from new [] n full.rest) (sym feeds) read) in
     record {
       can_next = tt;
       finite = tt;
+      reading_is = next_so;
       header = header;
       lines = next.lines;
       read = left;

@@ -1,9 +1,11 @@
 use Rattle.std.proofs.Common.{[], ◌++◌, ◌∷◌, ◌∙◌, ℕ, List, Option, ap, arith, refl, rules}
-use Rattle.csv_rows.specs.Records.{record_at, records_of}
+use Rattle.csv_rows.specs.Readings.{records_as}
+use Rattle.csv_rows.specs.Records.{record_at}
 use Rattle.row_blocks.specs.Blocks.{Table}
 use Rattle.split_run.specs.Pieces.{rows_of}
 use Rattle.stream_groups.specs.Reading.{HasRows}
 use Rattle.stream_groups.specs.Stops.{Tells}
+use Rattle.stream_groups.specs.Ways.{of_text}
 use Rattle.stream_groups.proofs.Refusals.{begins, have_columns}
 use Rattle.stream_groups.proofs.Streams.{one_record}
 use Rattle.stream_groups.proofs.reading.end.Goals as goal
@@ -20,9 +22,9 @@ pub returns-in_err-add_batch-clause-why : goal.returns-in_err-add_batch-clause-w
 returns-in_err-add_batch-clause-why g c =
     let s = c.args.stream in
     let header = record_at s.header 0 in
-    let here : (from left : Option (List ℕ)) (rows : Table) → HasRows c.args.bound from left s rows → Tells c.args.plan.now from c.in_err-add_batch.field-0.0 = λ from left rows has.
+    let here : (from left : Option (List ℕ)) (rows : Table) → HasRows c.args.plan.now.reading c.args.bound from left s rows → Tells (of_text c.args.plan.now.reading) c.args.plan.now from c.in_err-add_batch.field-0.0 = λ from left rows has.
     c.in_err-add_batch.ensures.why from left header rows c.requires.stream.bound c.requires.stream.batch.pieces has.added
-    (begins from left (header ∷ (rows ++ rows_of s.batch.pieces.items)) s.batch.feeds s.batch.next.rest s.is_last has.reaches) has.part in
+    (begins c.args.plan.now.reading from left (header ∷ (rows ++ rows_of s.batch.pieces.items)) s.batch.feeds s.batch.next.rest s.is_last has.reaches) has.part in
     search rules
 
 pub returns-clause-groups : goal.returns-clause-groups
@@ -36,7 +38,7 @@ returns-clause-groups g c =
     record {
       header = header;
       rows = rows ++ rows_of s.batch.pieces.items;
-      one = ap records_of (c.in_ok-header.ensures.items ∙ c.header.ensures) ∙ (h.line ∙ (one_record s.header (s.header ++ []) [] h.one refl).1);
+      one = c.in_ok-header.ensures ∙ (h.line ∙ (one_record s.header (s.header ++ []) [] h.one refl).1);
       count = all.count;
       bound = c.requires.stream.bound;
       groups = all.groups;

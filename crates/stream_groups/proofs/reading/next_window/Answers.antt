@@ -6,6 +6,7 @@ use Rattle.row_windows.specs.declared.window.WindowAnswer.TheVariants as answer
 use Rattle.split_run.specs.Pieces.{rows_of}
 use Rattle.stream_groups.specs.Reading.{HasRead, HasRows, IsFilledBatch, IsNotFilled}
 use Rattle.stream_groups.specs.Stops.{Tells}
+use Rattle.stream_groups.specs.Ways.{of_text}
 use Rattle.stream_groups.proofs.Gathering.{all_accepted}
 use Rattle.stream_groups.proofs.Refusals.{accepted_table, begins, have_columns}
 use Rattle.stream_groups.proofs.Streams.{next_header, next_part, next_reaches}
@@ -32,9 +33,9 @@ returns-in_err-filled-clause-why g c =
     let s = c.args.stream in
     let old = g.S.Source.left c.args.source.now in
     let header = record_at s.header 0 in
-    let here : (from : Option (List ℕ)) (rows : Table) → HasRows c.args.bound.now from old s rows → Tells c.args.plan.now from c.in_err-filled.field-0.0 = λ from rows has.
+    let here : (from : Option (List ℕ)) (rows : Table) → HasRows c.args.plan.now.reading c.args.bound.now from old s rows → Tells (of_text c.args.plan.now.reading) c.args.plan.now from c.in_err-filled.field-0.0 = λ from rows has.
     c.in_err-filled.ensures.why from old header rows c.requires.stream.bound c.requires.stream.batch.pieces has.added
-    (begins from old (header ∷ (rows ++ rows_of s.batch.pieces.items)) s.batch.feeds s.batch.next.rest s.is_last has.reaches) has.part in
+    (begins c.args.plan.now.reading from old (header ∷ (rows ++ rows_of s.batch.pieces.items)) s.batch.feeds s.batch.next.rest s.is_last has.reaches) has.part in
     search rules
 
 -- ---- the next batch was not filled
@@ -56,9 +57,10 @@ returns-in-Err-clause-why g c =
     λ from rows has.
     let records = header ∷ (rows ++ rows_of s.batch.pieces.items) in
     let all = c.in_ok-filled.ensures.added.rows header rows c.requires.stream.batch.pieces has.added in
-    let read : HasRead from old records s.batch.feeds was.rest = subst (HasRead from old records s.batch.feeds) (sym c.in_ok-follow.ensures.rest) (has.reaches.more c.requires.more) in
+    let reading = c.args.plan.now.reading in
+    let read : HasRead reading from old records s.batch.feeds was.rest = subst (HasRead reading from old records s.batch.feeds) (sym c.in_ok-follow.ensures.rest) (has.reaches.more c.requires.more) in
     let number : length records ≡ c.add_and_fill.new.added.count + 1 = omega (arith, all.count) in
-    window_tells old new old_faults new_faults was now.next c.args.plan.now from records s.batch.feeds now.feeds (c.add_and_fill.new.added.count + 1) c.rest-text.result.now why c.stop_of_window.result
+    window_tells old new old_faults new_faults was now.next reading c.args.plan.now from records s.batch.feeds now.feeds (c.add_and_fill.new.added.count + 1) c.rest-text.result.now why c.stop_of_window.result
     (inr (accepted_table c.args.plan.now header c.args.bound.now c.requires.stream.bound (rows ++ rows_of s.batch.pieces.items)
     (all_accepted c.args.bound.now (length header) (rows ++ rows_of s.batch.pieces.items) c.add_and_fill.new.added.gathered all.groups))) read number feeds c.rest-text.ensures is c.stop_of_window.ensures
 
@@ -91,7 +93,7 @@ returns-clause-stream g c =
     let follow = c.in_ok-follow.ensures in
     let filled : IsFilledBatch old new was.next was.before now c.in-Ok.is_last = subst (λ (r : Result Bool WindowAnswer). IfOk r (IsFilledBatch old new was.next was.before now)) c.in-Ok.is c.in_ok-filled.ensures.filled in
     record {
-      batch = next_header s.header s.batch now was.next was.before s.is_last c.in-Ok.is_last old new c.requires.stream.batch c.requires.more follow.header follow.rest follow.before filled;
+      batch = next_header c.args.plan.now.reading s.header s.batch now was.next was.before s.is_last c.in-Ok.is_last old new c.requires.stream.batch c.requires.more follow.like follow.rest follow.before filled;
       bound = c.requires.stream.bound;
       many = adds.many ∙ c.requires.stream.many;
       few = adds.few;
@@ -112,8 +114,8 @@ returns-clause-rows g c =
       all,
       record {
         added = c.in_ok-filled.ensures.added.rows (record_at s.header 0) rows c.requires.stream.batch.pieces has.added;
-        reaches = next_reaches s.header s.batch now was.next was.before s.is_last c.in-Ok.is_last old new c.requires.stream.batch c.requires.more follow.header follow.rest follow.before filled from all read;
-        part = λ _. next_part s.header s.batch now was.next was.before s.is_last c.in-Ok.is_last old new c.requires.stream.batch c.requires.more follow.header follow.rest follow.before filled from all read;
+        reaches = next_reaches c.args.plan.now.reading s.header s.batch now was.next was.before s.is_last c.in-Ok.is_last old new c.requires.stream.batch c.requires.more follow.like follow.rest follow.before filled from all read;
+        part = λ _. next_part c.args.plan.now.reading s.header s.batch now was.next was.before s.is_last c.in-Ok.is_last old new c.requires.stream.batch c.requires.more follow.like follow.rest follow.before filled from all read;
       },
     )
 

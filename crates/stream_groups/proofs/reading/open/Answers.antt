@@ -20,7 +20,7 @@ returns-clause-stream c =
     let first = c.args.first in
     let made = c.in_ok-of_window.ensures in
     record {
-      batch = first_headed first.header first.window first.feeds c.in_ok-of_window.field-0 first.is_last c.requires.header c.requires.lined made.pieces made.header made.rest made.before made.feeds made.few;
+      batch = first_headed c.args.plan.now.reading first.header first.window first.feeds c.in_ok-of_window.field-0 first.is_last c.requires.header c.requires.lined made.pieces made.like made.rest made.before made.feeds made.few;
       bound = c.requires.bound;
       many = omega (arith, ap length c.in_ok-maps.ensures, length-replicate (c.args.workers + 1) (map.empty {K = List ℕ} {X = AggState} {R = key_cmp}));
       few = omega arith;
@@ -36,16 +36,17 @@ returns-clause-rows c =
     let b = c.in_ok-of_window.field-0 in
     let one : rows_of b.pieces.items ≡ piece_rows first.window = ap rows_of made.pieces ∙ append-nil (piece_rows first.window) in
     let lines : lines_of b.pieces.items ≡ first.window.lines = ap lines_of made.pieces ∙ append-nil first.window.lines in
+    let reading = c.args.plan.now.reading in
     λ from left r part.
-    let all : Reaches from left (header ∷ rows_of b.pieces.items) b.feeds first.window.rest first.is_last =
-    subst (λ (n : ℕ). Reaches from left (header ∷ rows_of b.pieces.items) n first.window.rest first.is_last) (sym made.feeds)
-    (subst (λ (l : Table). Reaches from left l (first.feeds + count_feeds first.window.lines) first.window.rest first.is_last) (c.requires.header.records ∙ ap (λ (l : Table). header ∷ l) (sym one)) r) in
+    let all : Reaches reading from left (header ∷ rows_of b.pieces.items) b.feeds first.window.rest first.is_last =
+    subst (λ (n : ℕ). Reaches reading from left (header ∷ rows_of b.pieces.items) n first.window.rest first.is_last) (sym made.feeds)
+    (subst (λ (l : Table). Reaches reading from left l (first.feeds + count_feeds first.window.lines) first.window.rest first.is_last) (c.requires.header.records ∙ ap (λ (l : Table). header ∷ l) (sym one)) r) in
     record {
       added = record { count = refl; groups = subst (λ (l : List GroupsByKey). AreShared bound width [] l) (sym c.in_ok-maps.ensures) (shares_begin bound width _) };
-      reaches = subst (λ (rest : List ℕ). Reaches from left (header ∷ rows_of b.pieces.items) b.feeds rest first.is_last) (sym made.rest) all;
+      reaches = subst (λ (rest : List ℕ). Reaches reading from left (header ∷ rows_of b.pieces.items) b.feeds rest first.is_last) (sym made.rest) all;
       part = λ some.
-          let here : HasPart from left (header ∷ []) first.feeds (first.window ∷ []) first.window.rest = part (subst (λ (l : List ℕ). 0 < length l) lines some) in
-          subst (HasPart from left (header ∷ []) b.before b.pieces.items) (sym made.rest)
-          (subst (λ (n : ℕ). HasPart from left (header ∷ []) n b.pieces.items first.window.rest) (sym made.before)
-          (subst (λ (ps : List Stretch). HasPart from left (header ∷ []) first.feeds ps first.window.rest) (sym made.pieces) here));
+          let here : HasPart reading from left (header ∷ []) first.feeds (first.window ∷ []) first.window.rest = part (subst (λ (l : List ℕ). 0 < length l) lines some) in
+          subst (HasPart reading from left (header ∷ []) b.before b.pieces.items) (sym made.rest)
+          (subst (λ (n : ℕ). HasPart reading from left (header ∷ []) n b.pieces.items first.window.rest) (sym made.before)
+          (subst (λ (ps : List Stretch). HasPart reading from left (header ∷ []) first.feeds ps first.window.rest) (sym made.pieces) here));
     }

@@ -1,5 +1,7 @@
 use Rattle.std.proofs.Common.{◌≡◌, ◌+◌, ◌∷◌, ◌∙◌, ℕ, ap, arith, length, length-drop, refl, sym, take}
-use Rattle.csv_rows.specs.Records.{record_at, records_of}
+use Rattle.csv_rows.specs.Readings.{records_as}
+use Rattle.csv_rows.specs.Records.{record_at}
+use Rattle.csv_rows.specs.declared.cleaning.Reading.{Reading}
 use Rattle.row_blocks.specs.Blocks.{Table}
 use Rattle.row_windows.specs.Stretch.{Stretch}
 use Rattle.split_run.specs.Pieces.{piece_records, piece_rows, rows_of}
@@ -23,7 +25,7 @@ returns-in-Some-clause-row c = λ header under.
     let i = c.loop-piece.piece-index in
     let at = c.in-Some.place in
     let found = c.in-Some.ensures in
-    let same : c.in-Ok.store ≡ piece_records p = c.in-Ok.ensures.records ∙ ap records_of c.table.ensures in
+    let same : c.in-Ok.store ≡ piece_records p = c.in-Ok.ensures.records ∙ (ap (λ (r : Reading). records_as r c.table.result.now) c.reading.ensures ∙ ap (records_as p.reading) c.table.ensures) in
     let size : length (piece_rows p) ≡ c.count.result = omega (arith, length-drop 1 (piece_records p), ap length same, c.count.ensures.rows) in
     let here = row_in pieces i p c.loop-piece-test.true c.piece-item.is at found.some (omega (arith, found.within, size)) header under in
     let number : length (rows_of (take i pieces)) + at ≡ c.args.row = omega (arith, found.place, c.loop-piece.invariant.count) in (
@@ -35,7 +37,7 @@ pub returns-in-Some-clause-store : goal.returns-in-Some-clause-store
 returns-in-Some-clause-store c =
     let pieces = c.args.pieces.now in
     let p = c.piece-item.result in
-    let same : c.in-Ok.store ≡ piece_records p = c.in-Ok.ensures.records ∙ ap records_of c.table.ensures in
+    let same : c.in-Ok.store ≡ piece_records p = c.in-Ok.ensures.records ∙ (ap (λ (r : Reading). records_as r c.table.result.now) c.reading.ensures ∙ ap (records_as p.reading) c.table.ensures) in
     let there : p ≡ piece_at pieces c.loop-piece.number =
     same_there pieces c.loop-piece.piece-index p c.loop-piece-test.true c.piece-item.is ∙ ap (piece_at pieces) (sym c.loop-piece.invariant.number) in
     same ∙ ap (λ (q : Stretch). piece_records q) there
@@ -64,7 +66,7 @@ loop-piece-preserved c =
     let pieces = c.args.pieces.now in
     let p = c.piece-item.result in
     let i = c.loop-piece.piece-index in
-    let same : c.in-Ok.store ≡ piece_records p = c.in-Ok.ensures.records ∙ ap records_of c.table.ensures in
+    let same : c.in-Ok.store ≡ piece_records p = c.in-Ok.ensures.records ∙ (ap (λ (r : Reading). records_as r c.table.result.now) c.reading.ensures ∙ ap (records_as p.reading) c.table.ensures) in
     let size : length (piece_rows p) ≡ c.count-before.result = omega (arith, length-drop 1 (piece_records p), ap length same, c.count-before.ensures.rows) in
     record {
       count = omega (arith, count_next pieces i p c.loop-piece-test.true c.piece-item.is, size, c.loop-piece.invariant.count);

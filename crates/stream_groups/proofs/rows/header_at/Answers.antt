@@ -1,6 +1,7 @@
-use Rattle.std.proofs.Common.{◌≡◌, ◌∷◌, ◌∙◌, [], ap}
+use Rattle.std.proofs.Common.{◌≡◌, ◌∷◌, ◌∙◌, [], List, ap}
 use Rattle.std.proofs.lemmas.Result.{IfOk-weaker}
-use Rattle.csv_rows.specs.Records.{record_at, records_of}
+use Rattle.csv_rows.specs.Readings.{records_as}
+use Rattle.csv_rows.specs.Records.{record_at}
 use Rattle.row_blocks.specs.Blocks.{Table}
 use Rattle.row_windows.specs.Stretch.{Stretch}
 use Rattle.stream_groups.specs.Begins.{IsLined, no_stretch, piece_at}
@@ -11,7 +12,8 @@ pub returns : goal.returns
 returns c =
     let pieces = c.args.pieces.now in
     let at = c.args.at in
-    let there : c.header.result.now ≡ (piece_at pieces at).header = c.header.ensures ∙ ap (λ (w : Stretch). w.header) (same_there pieces at c.index-pieces-at.result c.requires.within c.index-pieces-at.is) in
-    let lined : IsLined (piece_at pieces at) = c.requires.lines at no_stretch c.requires.within in
-    IfOk-weaker c.from_slice.result _ _ (λ bytes same header under.
-    ap records_of (same ∙ there) ∙ (lined.one ∙ ap (λ (l : Table). record_at l 0 ∷ []) (under at no_stretch c.requires.within))) c.from_slice.ensures.items
+    let reading = c.args.plan.now.reading in
+    let there = same_there pieces at c.index-pieces-at.result c.requires.within c.index-pieces-at.is in
+    let lined : IsLined reading (piece_at pieces at) = c.requires.lines at no_stretch c.requires.within in
+    IfOk-weaker c.header_line.result _ _ (λ line is header under.
+    is ∙ (ap (λ (w : Stretch). records_as reading w.header) there ∙ (lined.one ∙ ap (λ (l : Table). record_at l 0 ∷ []) (under at no_stretch c.requires.within)))) c.header_line.ensures

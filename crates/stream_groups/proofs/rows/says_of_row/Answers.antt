@@ -8,6 +8,7 @@ use Rattle.stream_groups.specs.Begins.{IsLined, IsPlaceIn, feeds_of, no_stretch,
 use Rattle.stream_groups.specs.Said.{row_says}
 use Rattle.stream_groups.proofs.Feeds.{feeds_within}
 use Rattle.stream_groups.proofs.Found.{begins_if}
+use Rattle.stream_groups.proofs.ReadAs.{rows_count}
 use Rattle.stream_groups.proofs.rows.says_of_row.Goals as goal
 
 pub overflow_add-feeds : goal.overflow_add-feeds
@@ -17,16 +18,18 @@ pub place_in_lines-requires-clause-line : goal.place_in_lines-requires-clause-li
 place_in_lines-requires-clause-line c =
     let found = c.in_ok-found.found in
     let w = piece_at c.args.pieces.now found.piece in
-    let lined : IsLined w = c.requires.lines found.piece no_stretch c.in_ok-found.ensures.piece in
+    let reading = c.args.plan.now.reading in
+    let lined : IsLined reading w = c.requires.lines found.piece no_stretch c.in_ok-found.ensures.piece in
     let some : 0 < length (piece_rows w) = omega (arith, c.in_ok-found.ensures.within, c.in_ok-found.ensures.some, length-drop 1 (piece_records w), ap (λ (l : Table). length l) c.in_ok-found.ensures.store) in
-    subst BeginsLine (sym c.lines_at-lines.ensures) (begins_if w lined some)
+    subst BeginsLine (sym c.lines_at-lines.ensures) (begins_if reading w lined some)
 
 pub place_in_lines-requires-clause-some : goal.place_in_lines-requires-clause-some
 place_in_lines-requires-clause-some c =
     let found = c.in_ok-found.found in
     let w = piece_at c.args.pieces.now found.piece in
-    let lined : IsLined w = c.requires.lines found.piece no_stretch c.in_ok-found.ensures.piece in
-    let same : length (records_of c.lines_at-lines.result.now) ≡ length (piece_rows w) = ap (λ (l : List ℕ). length (records_of l)) c.lines_at-lines.ensures ∙ sym (ap (λ (l : Table). length l) lined.rows) in
+    let reading = c.args.plan.now.reading in
+    let lined : IsLined reading w = c.requires.lines found.piece no_stretch c.in_ok-found.ensures.piece in
+    let same : length (records_of c.lines_at-lines.result.now) ≡ length (piece_rows w) = ap (λ (l : List ℕ). length (records_of l)) c.lines_at-lines.ensures ∙ sym (rows_count reading w lined) in
     omega (arith, same, c.in_ok-found.ensures.within, c.in_ok-found.ensures.some, length-drop 1 (piece_records w), ap (λ (l : Table). length l) c.in_ok-found.ensures.store)
 
 pub place_in_lines-requires-clause-few : goal.place_in_lines-requires-clause-few

@@ -11,7 +11,8 @@ returns-in-Row c =
     let pieces = c.args.pieces.now in
     let feeds = c.args.feeds in
     let said = c.stop_of_row.result in
-    subst (λ (a : BlockAnswer). Restates plan bound pieces c.args.before feeds a said) (sym c.in-Row.is)
+    let reading = c.args.plan.now.reading in
+    subst (λ (a : BlockAnswer). Restates reading plan bound pieces c.args.before feeds a said) (sym c.in-Row.is)
     (λ small.
     let same : c.saturating_add.result ≡ c.args.before + c.in-Row.row = omega (arith, c.saturating_add.ensures, small) in
-    subst (λ (n : ℕ). IsRefusedRow plan bound pieces n c.in-Row.row feeds (record { cause = c.in-Row.cause; item = c.in-Row.item }) said ⊎ (said ≡ stop.Memory)) same c.stop_of_row.ensures)
+    subst (λ (n : ℕ). IsRefusedRow reading plan bound pieces n c.in-Row.row feeds (record { cause = c.in-Row.cause; item = c.in-Row.item }) said ⊎ (said ≡ stop.Memory)) same c.stop_of_row.ensures)

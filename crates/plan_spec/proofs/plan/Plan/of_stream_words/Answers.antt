@@ -15,10 +15,10 @@ pub returns-in-Ok-clause-plan : goal.returns-in-Ok-clause-plan
 unfolding stream_query_of
 returns-in-Ok-clause-plan c =
     let g = c.in-Ok.ensures in
-    rw (g.takes, ← g.group, ← g.agg, ← g.filters, ← g.decimals, ← g.workers) (rw (without-table c.in-Ok.given g.plan.0 g.plan.1 g.texts) at c.read_values.ensures.plan)
+    rw (g.takes, ← g.group, ← g.agg, ← g.filters, ← g.decimals, ← g.workers, ← g.separator, ← g.nulls, ← g.trim) (rw (without-table c.in-Ok.given g.plan.0 g.plan.1 g.texts) at c.read_values.ensures.plan)
 
 pub returns-in-Ok-clause-usage : goal.returns-in-Ok-clause-usage
 unfolding stream_query_of
 returns-in-Ok-clause-usage c =
     let g = c.in-Ok.ensures in
-    rw (g.takes, ← g.group, ← g.agg, ← g.filters, ← g.decimals, ← g.workers) (rw (without-table c.in-Ok.given g.plan.0 g.plan.1 g.texts) at c.read_values.ensures.usage)
+    rw (g.takes, ← g.group, ← g.agg, ← g.filters, ← g.decimals, ← g.workers, ← g.separator, ← g.nulls, ← g.trim) (rw (without-table c.in-Ok.given g.plan.0 g.plan.1 g.texts) at c.read_values.ensures.usage)

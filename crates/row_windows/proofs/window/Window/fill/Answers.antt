@@ -10,4 +10,4 @@ returns-in-Ok-NoCut-read_on-clause-long g c =
     let none = on.no_cut is in
     let rest = c.read_on-2.new.self.rest in
     let fills = fills-more _ _ _ c.args.self.now.rest c.longer.self.rest rest c.longer.invariant.reads (rw none.0 at on.reads) in
-    λ why. record { header = on.header ∙ c.longer.invariant.header; lines = none.0; reads = fills; long = record { long = omega (arith, none.1); no_cut = none.2 refl } }
+    λ why. record { reading = on.reading ∙ c.longer.invariant.reading; header = on.header ∙ c.longer.invariant.header; lines = none.0; reads = fills; long = record { long = omega (arith, none.1); no_cut = none.2 refl } }

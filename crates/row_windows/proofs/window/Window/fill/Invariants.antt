@@ -5,6 +5,7 @@ use Rattle.row_windows.proofs.window.Window.fill.Given as goal
 abbrev pub invariant-longer : goal.invariant-longer
 invariant-longer g l = record {
   some : 0 < l.goal;
+  reading : l.self.reading ≡ l.fn.self.reading;
   header : l.self.header ≡ l.fn.self.header;
   lines : l.self.lines ≡ [];
   reads : Fills (g.S.Source.left l.fn.source) (g.S.Source.left l.source) l.fn.self.rest l.self.rest;

@@ -19,7 +19,7 @@ returns-clause-added g c =
       piece = piece;
       pieces = all;
       filled = e.filled;
-      header = ap (λ (w : Stretch). w.header) next ∙ follows.header;
+      like = record { header = ap (λ (w : Stretch). w.header) next ∙ follows.header; reading = ap (λ (w : Stretch). w.reading) next ∙ follows.reading };
       lines = ap (λ (w : Stretch). w.lines) next ∙ follows.lines;
       rest = ap (λ (w : Stretch). w.rest) next ∙ follows.rest;
       before = refl;
