@@ -3,7 +3,7 @@
 
 Takes the folder of the programs. The rows are those of examples/expected and examples/shell/expected, each command
 as it stands there, the standard input and output of the programs' crates, and what parstream says of words and of inputs
-that it refuses, as docs/SEMANTICS.md has it.
+that it refuses, as docs/SEMANTICS.md has it, and what is said if a standard stream can't be read or written.
 """
 
 import os
@@ -191,6 +191,16 @@ STREAMS = [
     ("--group g --agg count", b"g,v,v\na,1,2\n", b"g,count\na,1\n", b"", 0),
 ]
 
+# Where the standard input and output of a program come from that counts two records, and its line and status.
+FAULTS = [
+    ("<&-", b"read fault", 3),
+    ("0>/dev/null", b"read fault", 3),
+    ("</", b"read fault", 3),
+    (">&-", b"write fault", 4),
+    ("1</dev/null", b"write fault", 4),
+    ("</dev/null", b"no header", 2),
+]
+
 
 def read(path):
     """The bytes of a file of the repository, or None if there is none."""
@@ -257,9 +267,17 @@ def stream_rows(programs):
         yield b"parstream " + os.fsencode(line), repr(got).encode(), repr(wanted).encode()
 
 
+def fault_rows(programs):
+    for name in ("pargather", "parstream"):
+        for streams, line, status in FAULTS:
+            result = run(programs, f"printf 'g\\n1\\n' | {name} --agg count {streams}")
+            wanted = b"%s: %s\n%d" % (name.encode(), line, status)
+            yield f"{name} {streams}".encode(), result.stdout + result.stderr + b"%d" % result.returncode, wanted
+
+
 def main():
     programs = os.path.abspath(sys.argv[1])
-    rows = [*example_rows(programs), *shell_rows(programs), *crate_rows(programs), *stream_rows(programs)]
+    rows = [*example_rows(programs), *shell_rows(programs), *crate_rows(programs), *stream_rows(programs), *fault_rows(programs)]
     wrong = [(line, got, wanted) for line, got, wanted in rows if got != wanted]
     for line, got, wanted in wrong:
         sys.stdout.buffer.write(b"rows: %s\n--- wanted\n%s--- got\n%s" % (line, wanted, got))
