@@ -100,7 +100,7 @@ fn kinds(rt: HostRuntime) {
 }
 
 /// Fields, and how they are shown.
-const SHOWN: [(&[u8], &str); 12] = [
+const SHOWN: [(&[u8], &str); 14] = [
     (b"1.50", "\"1.50\""),
     (b"", "\"\""),
     (b"a\"b\\c", "\"a\\\"b\\\\c\""),
@@ -115,6 +115,8 @@ const SHOWN: [(&[u8], &str); 12] = [
         b"a\xe2\x80\xaeb\xe2\x80\xa6",
         "\"a\\xe2\\x80\\xaeb\u{2026}\"",
     ),
+    (b"\xef\xbb\xbfg", "\"\\xef\\xbb\\xbfg\""),
+    (b"a\xc2\xa0b", "\"a\\xc2\\xa0b\""),
     (b"\xe2\x82", "\"\\xe2\\x82\""),
     (b"\xed\xa0\x80", "\"\\xed\\xa0\\x80\""),
     (
