@@ -18,7 +18,7 @@ use Rattle.state_groups.specs.Group.{group_bytes, slots_bytes, values_bytes}
 use Rattle.state_groups.specs.Slot.{has_integers, integers_bytes, slot_bytes, spread}
 use Rattle.state_head.specs.Head.{Preface, head_bytes}
 use Rattle.state_lanes.specs.Lanes.{has_numbers}
-use Rattle.state_save.specs.Saving.{AreTuplesOf, IsTold, IsTooLong, LongIsKnown, tuple_of}
+use Rattle.state_save.specs.Saving.{AreTuplesOf, IsLongFile, IsTold, LongIsKnown, tuple_of}
 use Rattle.state_save.proofs.Files.{all_tuples}
 use Rattle.state_whole.specs.Adding.{IsShape}
 use Rattle.state_whole.specs.declared.adding.Shape.{Shape}
@@ -208,7 +208,7 @@ by_foot kinds start groups fit none = go (nat_le (length (foot_bytes kinds start
 pub long_known : LongIsKnown
 long_known shape preface groups is told few none = go (nat_le (length (head_bytes preface)) (2 ^ 28)) refl
   where
-    go : (b : Bool) → nat_le (length (head_bytes preface)) (2 ^ 28) ≡ b → IsTooLong shape preface groups
+    go : (b : Bool) → nat_le (length (head_bytes preface)) (2 ^ 28) ≡ b → IsLongFile shape preface groups
     go true e =
         let short = leb-true (length (head_bytes preface)) (2 ^ 28) e in
         let no = none short in

@@ -71,8 +71,8 @@ pub record HasLongFoot (shape : Shape) (preface : Preface) (groups : List MapGro
   pub long : 2 ^ 28 < length (foot_bytes shape.kinds.now (length (front_bytes preface)) (blocks_of shape.kinds.now tuples))
 
 -- a file of these groups is too long, since its head or its foot is
-abbrev pub IsTooLong : Shape → Preface → List MapGroup → Type 0
-IsTooLong shape preface groups = HasLongHead preface ⊎ HasLongFoot shape preface groups
+abbrev pub IsLongFile : Shape → Preface → List MapGroup → Type 0
+IsLongFile shape preface groups = HasLongHead preface ⊎ HasLongFoot shape preface groups
 
 -- groups that do not fit behind a head of at most 2^28 bytes
 abbrev pub DoNotFit : Shape → Preface → List MapGroup → Type 0
@@ -80,4 +80,4 @@ DoNotFit shape preface groups = length (head_bytes preface) ≤ 2 ^ 28 → (tupl
 
 -- at most 2^50 groups that rows can give fit into blocks, so only a head or a foot can be too long
 abbrev pub LongIsKnown : Type 0
-LongIsKnown = (shape : Shape) (preface : Preface) (groups : List MapGroup) → IsShape shape → All (IsTold shape) groups → length groups ≤ 2 ^ 50 → DoNotFit shape preface groups → IsTooLong shape preface groups
+LongIsKnown = (shape : Shape) (preface : Preface) (groups : List MapGroup) → IsShape shape → All (IsTold shape) groups → length groups ≤ 2 ^ 50 → DoNotFit shape preface groups → IsLongFile shape preface groups
