@@ -1,0 +1,3 @@
+pub mod Numbers
+pub mod Front
+pub mod Left
