@@ -10,7 +10,9 @@ mod ahead;
 mod bytes;
 mod front;
 mod header;
+mod law;
 mod numbered;
 
 pub use front::FRONT;
+pub use law::numbers_are_header;
 pub use numbered::Numbered;
