@@ -28,7 +28,7 @@ pub fn put_shown(text: &mut String, field: &[u8]) -> Result<(), AllocError>
     ensures { IfOk result (λ _. string_bytes text.new ≡ string_bytes text.old ++ shown_text field.now) }
 {
     text.push_str("\"")?;
-    put_all(text, first_bytes(field))?;
+    put_escaped(text, first_bytes(field))?;
     text.push_str(end_quote(field))?;
     Ok(())
 }
@@ -51,8 +51,9 @@ fn end_quote(field: &[u8]) -> &'static str
     }
 }
 
-/// Puts what is shown of all these bytes.
-fn put_all(text: &mut String, bytes: &[u8]) -> Result<(), AllocError>
+/// Puts what is shown of all these bytes at the end of a text, without quotes. If memory runs out a part of it may be there. It
+/// takes at most four bytes for each.
+pub fn put_escaped(text: &mut String, bytes: &[u8]) -> Result<(), AllocError>
     ensures { IfOk result (λ _. string_bytes text.new ≡ string_bytes text.old ++ shown_after 0 bytes.now) }
 {
     let mut rest = bytes;
