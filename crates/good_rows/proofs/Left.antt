@@ -1,13 +1,12 @@
 -- What is left of a text whose lines are left out.
-use Rattle.std.proofs.Common.{◌≡◌, ◌≢◌, ◌<◌, ◌≤◌, ◌+◌, ◌-◌, ◌++◌, ◌∷◌, ◌∙◌, ◌⊎◌, [], Bool, ℕ, suc, zero, List, Option, None, Some, true, false, ap, append-nil, append_assoc, arith, cond, drop, inl, inr, length, length-append, map, refl, subst, sym, take}
-use Rattle.std.specs.Prelude.{◌==◌, ◌&&◌, ◌||◌, if◌then◌else◌, is_none, not, slice_index}
-use Rattle.std.specs.List.{filter, list_all}
+use Rattle.std.proofs.Common.{◌≡◌, ◌≢◌, ◌<◌, ◌≤◌, ◌+◌, ◌-◌, ◌++◌, ◌∷◌, ◌∙◌, [], Bool, ℕ, List, true, false, ap, append-nil, append_assoc, arith, drop, inl, inr, length, length-append, map, refl, subst, sym, take}
+use Rattle.std.specs.Prelude.{◌==◌, ◌||◌, if◌then◌else◌, slice_index}
+use Rattle.std.specs.List.{list_all}
 use Rattle.std.proofs.lemmas.Bool.{cases_Bool, eqb-true}
 use Rattle.std.proofs.lemmas.List.{drop_more, get_or_append_left, map-append, take-append-le, take_all, take_more}
 use Rattle.std.proofs.lemmas.List.Elements.{filter-append}
-use Rattle.csv.specs.Reading.{strip_bom}
 use Rattle.csv_rows.specs.Cuts.{IsCut, ends_quoted}
-use Rattle.csv_rows.specs.Places.{after_byte, is_quoted_place, place_after}
+use Rattle.csv_rows.specs.Places.{after_byte, place_after}
 use Rattle.csv_rows.specs.Readings.{as_read, records_as}
 use Rattle.csv_rows.specs.Records.{records_of}
 use Rattle.csv_rows.specs.declared.cleaning.Reading.{Reading}
@@ -17,13 +16,11 @@ use Rattle.csv_rows.proofs.Cleaned.{as-length}
 use Rattle.csv_rows.proofs.Follows.{scan-cut}
 use Rattle.csv_rows.proofs.Scans.{place-append}
 use Rattle.par_model.specs.Plan.{Plan}
-use Rattle.par_model.specs.Refuse.{refusal}
 use Rattle.row_blocks.specs.Blocks.{Table}
 use Rattle.row_windows.specs.Ends.{AllEnd, NoneBehind}
-use Rattle.row_windows.specs.Seams.{BeginsLine, IsSeam, is_line_end}
+use Rattle.row_windows.specs.Seams.{BeginsLine, is_line_end}
 use Rattle.row_windows.proofs.InFront.{few-whole, none-more}
 use Rattle.row_windows.proofs.Seams.{records_add_up}
-use Rattle.text_lines.specs.Begins.{AllEndFrom}
 use Rattle.text_lines.proofs.Ends.{only_ends}
 use Rattle.text_lines.proofs.Parts.{after_line, no_mark}
 use Rattle.good_rows.specs.Good.{good_rows, has_good, is_good}

@@ -1,5 +1,5 @@
 -- The lines of a text, and what is left of it if some are left out.
-use Rattle.std.specs.Prelude.{◌≡◌, ◌&&◌, ◌++◌, ◌∷◌, [], Bool, ℕ, List, if◌then◌else◌, length, not, take, true}
+use Rattle.std.specs.Prelude.{◌≡◌, ◌&&◌, ◌++◌, ◌∷◌, [], Bool, ℕ, List, if◌then◌else◌, length, not, take}
 use Rattle.csv_rows.specs.Places.{is_quoted_place, place_after}
 use Rattle.csv_rows.specs.Readings.{records_as}
 use Rattle.csv_rows.specs.declared.cleaning.Reading.{Reading}

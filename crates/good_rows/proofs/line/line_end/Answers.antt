@@ -1,6 +1,5 @@
-use Rattle.std.proofs.Common.{◌≡◌, ◌+◌, ◌∷◌, ◌∙◌, [], ℕ, ap, arith, length, refl, slice_index, subst, sym}
+use Rattle.std.proofs.Common.{◌≡◌, ◌+◌, ◌∙◌, ℕ, ap, arith, length, refl, slice_index, subst, sym}
 use Rattle.csv_rows.specs.Places.{place_after}
-use Rattle.csv_rows.specs.declared.place.Place.{Place}
 use Rattle.good_rows.specs.Judging.{GoesOn}
 use Rattle.good_rows.proofs.Left.{goes_more, goes_none, one_byte}
 use Rattle.good_rows.proofs.line.line_end.Goals as goal

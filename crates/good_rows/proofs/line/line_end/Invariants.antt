@@ -1,4 +1,3 @@
-use Rattle.std.proofs.Common.{◌≤◌, length}
 use Rattle.good_rows.specs.Judging.{GoesOn}
 use Rattle.good_rows.proofs.line.line_end.Given as goal
 
