@@ -50,7 +50,7 @@ struct LongSaid {
     said: String,
 }
 
-/// The first window that has a record, with its fields read so. It is as long as the header's line, or 4,096 bytes.
+/// The first window that has a record, with its fields read so. It has `size` bytes, or more if its first record is longer.
 pub fn first_window<R: Wait, S: Source>(
     rt: &R,
     alloc: Global,
