@@ -38,7 +38,7 @@ STREAMS = [
         b"g\n1\n",
         b"",
         b'parstream: "--plan" is not understood: the options are --group, --agg, --where, --decimals, --separator,'
-        b" --null, --trim, --workers, --order, --limit and --output; see parstream --help\n",
+        b" --null, --trim, --workers, --order, --limit, --output and --no-header; the input is the standard input, as in < FILE; see parstream --help\n",
         2,
     ),
     (
@@ -145,7 +145,7 @@ STREAMS = [
         2,
     ),
     ('--agg count --where g="1"', b"g\n1\n01\n", b"count\n1\n", b"", 0),
-    ("--agg count --where g=a --where v<2", b"g,v\nb,x\na,x\n", b"", b"parstream: row 2 (line 3): filter column \"v\" is not an integer: \"x\"\n", 1),
+    ("--agg count --where g=a --where v<2", b"g,v\nb,x\na,x\n", b"", b"parstream: row 2 (line 3): filter column \"v\" is not an integer: \"x\"; see --null\n", 1),
     (
         "--agg sum:price,avg:price --where price>=-2.0 --decimals price=2",
         b"price\n1.50\n-2\n+.5\n\n",
@@ -164,7 +164,7 @@ STREAMS = [
         "--agg sum:v",
         b'g,v\r\n"a\r\nb",1\r\n\r\nc,x\r\n',
         b"",
-        b'parstream: row 2 (line 5): column "v" is not an integer: "x"\n',
+        b'parstream: row 2 (line 5): column "v" is not an integer: "x"; see --null\n',
         1,
     ),
     (

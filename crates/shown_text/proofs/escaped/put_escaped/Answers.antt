@@ -2,7 +2,7 @@ use Rattle.std.proofs.Common.{◌≡◌, ◌-◌, ◌<◌, ◌++◌, ◌∙◌, 
 use Rattle.std.proofs.lemmas.Bool.Decides.{nat_tests}
 use Rattle.shown_text.specs.Shown.{front_text, shown_after}
 use Rattle.shown_text.proofs.Fronts.{front_then}
-use Rattle.shown_text.proofs.escaped.put_all.Goals as goal
+use Rattle.shown_text.proofs.escaped.put_escaped.Goals as goal
 
 pub fronts-preserved : goal.fronts-preserved
 fronts-preserved c =

@@ -1,6 +1,6 @@
 use Rattle.std.proofs.Common.{◌≡◌, ◌++◌, length, string_bytes}
 use Rattle.shown_text.specs.Shown.{shown_after}
-use Rattle.shown_text.proofs.escaped.put_all.Given as goal
+use Rattle.shown_text.proofs.escaped.put_escaped.Given as goal
 
 -- what is shown so far, and what will be of the rest
 abbrev pub invariant-fronts : goal.invariant-fronts
