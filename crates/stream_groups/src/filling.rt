@@ -153,13 +153,7 @@ pub(crate) fn fill<S: Source>(
 
 /// The reason for a window that was not filled, before which there are so many records and line feeds: what was read of it,
 /// if a record is too long, is this text.
-pub fn stop_of_window(
-    alloc: Global,
-    why: WindowAnswer,
-    row: u64,
-    feeds: u64,
-    text: &[u8],
-) -> Stop
+pub fn stop_of_window(alloc: Global, why: WindowAnswer, row: u64, feeds: u64, text: &[u8]) -> Stop
     requires { feeds ≤ 2 ^ 60 }
     ensures { IsStopOfWindow why row feeds text.now result }
 {
