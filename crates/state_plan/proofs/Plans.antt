@@ -1,5 +1,5 @@
 -- Why a head has no plan.
-use Rattle.std.proofs.Common.{◌≡◌, ◌∙◌, ℕ, Bool, true, false, List, [], ◌∷◌, None, Option, Some, ap, length, refl, subst, sym}
+use Rattle.std.proofs.Common.{◌≡◌, ◌∙◌, ℕ, Bool, true, false, List, [], ◌∷◌, None, Some, ap, arith, length, refl, subst, sym}
 use Rattle.std.proofs.lemmas.Bool.{eqb-true, true≢false}
 use Rattle.std.specs.Prelude.{◌==◌, ◌&&◌, not}
 use Rattle.csv_rows.specs.Readings.{is_plain, plain}
@@ -45,7 +45,7 @@ no false e = refl
 
 none_in : (bytes : List ℕ) → (length bytes == 0) ≡ true → bytes ≡ []
 none_in [] e = refl
-none_in (b ∷ bytes) e = cc e
+none_in (b ∷ bytes) e = absurd (omega (arith, eqb-true (length (b ∷ bytes)) 0 e))
 
 -- as they are, between commas
 pub plain_is : (reading : Reading) → is_plain reading ≡ true → reading ≡ plain
