@@ -1,6 +1,5 @@
 -- Rows have no more groups than they are.
-use Rattle.std.proofs.Common.{◌≡◌, ◌≤◌, ◌+◌, ◌++◌, ◌&&◌, ◌∙◌, ℕ, Bool, true, false, List, [], ◌∷◌, None, Some, ap, arith, bytes_eq, cond, filter, length, length-append, refl, sym}
-use Rattle.std.proofs.Math.Bool.{T}
+use Rattle.std.proofs.Common.{T, ◌≡◌, ◌≤◌, ◌+◌, ◌++◌, ◌&&◌, ◌∙◌, ℕ, Bool, true, false, List, [], ◌∷◌, None, Some, ap, arith, bytes_eq, cond, filter, length, length-append, refl, sym}
 use Rattle.std.specs.Cmp.Lexicographic.{bytes_decides}
 use Rattle.std.specs.FinMap as map
 use Rattle.std.specs.List.{AllZip, flat_map}
