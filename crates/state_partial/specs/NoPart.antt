@@ -5,6 +5,7 @@ use Rattle.csv_rows.specs.Readings.{exchanged}
 use Rattle.plan_spec.specs.Query.{Query}
 use Rattle.state_plan.specs.FilePlans.{AskFor, HaveNoQuery}
 use Rattle.state_partial.specs.Places.{AreLeft, IsLonger}
+use Rattle.state_partial.specs.TooLong.{AskForLong}
 use Rattle.state_partial.specs.Words.{Asked, asked_in}
 use Rattle.state_partial.specs.declared.no_part.NoPart.{NoPart}
 use Rattle.state_partial.specs.declared.no_part.NoPart.TheVariants as no_part
@@ -104,7 +105,7 @@ IsStopOf words left stop.Memory = ⊤
 -- a reason is one of these words and these bytes; so many reads failed since the source had ended before its size
 abbrev pub IsNoPart : List (List ℕ) → Option (List ℕ) → ℕ → NoPart → Type 0
 IsNoPart words left lacks no_part.Usage = AskForNone words
-IsNoPart words left lacks no_part.Long = ⊤
+IsNoPart words left lacks no_part.Long = AskForLong words left
 IsNoPart words left lacks no_part.NoLine = AskForTile LacksLine words left
 IsNoPart words left lacks no_part.LongHeader = AskForTile (λ span. HasLongHeader) words left
 IsNoPart words left lacks no_part.Short = AskForTile IsShorter words left ⊎ (0 < lacks)

@@ -9,6 +9,7 @@ ghost use Rattle.state_plan.specs.FilePlans.{AskFor, IsPlanOf};
 ghost use Rattle.state_partial.specs.Parts.{IsPartText};
 ghost use Rattle.state_partial.specs.Places.{AreRead, IsCoverOf, IsFilled, IsWithin};
 ghost use Rattle.state_partial.specs.Reads.{IsPartRead};
+ghost use Rattle.state_partial.specs.TooLong.{IsLongPart};
 ghost use Rattle.state_partial.specs.Words.{asked_in, asked_of};
 ghost use Rattle.state_partial.specs.declared.no_part.NoPart.TheVariants as no_part;
 ghost use Rattle.stream_groups.specs.declared.stop.Stop.TheVariants as stop;
@@ -23,7 +24,7 @@ use state_lanes::{kinds_of, lanes_of};
 use state_law::groups_are_told;
 use state_plan::{FilePlan, header_of};
 use state_runs::push_all;
-use state_save::saved_is_read;
+use state_save::{long_is_known, saved_is_read};
 use state_writer::WriteError;
 use std::alloc::{AllocError, Global};
 use std::thread::Threads;
@@ -45,6 +46,7 @@ pub(crate) fn file_of<R: Threads + Sync>(
     ensures file { IfOk result (λ file. (words : List (List ℕ)) (bytes read : List ℕ) → asked_in words ≡ Some (asked_of asked.now) → AreRead asked.now.part.source asked.now.extent (map (exchanged plan.reading.separator) bytes) place read
         → IsPartRead plan (Some read) part → IsPartText words bytes file.items) }
     ensures why { IfErr result (λ why. (why ≡ no_part.Long) ⊎ (why ≡ no_part.Stopped stop.Memory)) }
+    ensures long { IfErr result (λ why. why ≡ no_part.Long → (bytes read : List ℕ) → AreRead asked.now.part.source asked.now.extent bytes place read → IsPartRead plan (Some read) part → IsLongPart (asked_of asked.now) bytes) }
 {
     let Part {
         header,
@@ -72,9 +74,10 @@ pub(crate) fn file_of<R: Threads + Sync>(
         cover,
         range: all_keys(),
     };
-    // Tells that a reader takes the file. It does nothing.
+    // Tell that a reader takes the file, and when it is too long. They do nothing.
     groups_are_told();
     saved_is_read();
+    long_is_known();
     let mut file = Vec::new(alloc);
     let threads = asked.workers as usize + 1;
     match push_all(rt, alloc, &mut file, &head, map, &plan.shape(), threads) {
