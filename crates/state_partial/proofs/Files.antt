@@ -5,7 +5,7 @@ use Rattle.std.specs.FinMap as map
 use Rattle.std.specs.Prelude.{map as map_list}
 use Rattle.std.proofs.lemmas.List.Elements.{All-head}
 use Rattle.std.proofs.lemmas.List.Sorted.{length_permutation}
-use Rattle.csv_rows.specs.Readings.{exchanged, records_in}
+use Rattle.csv_rows.specs.Readings.{records_in}
 use Rattle.csv_rows.specs.Records.{record_at, records_of}
 use Rattle.csv_rows.proofs.Cleaned.{as-length}
 use Rattle.par_model.specs.Named.{bound_plan, missing_name}
@@ -36,7 +36,7 @@ use Rattle.state_whole.specs.Files.{IsStateFile, StateFile, file_bytes, tuples_i
 use Rattle.state_whole.specs.Sums.{has_refused, is_refused}
 use Rattle.state_whole.specs.declared.adding.Shape.{Shape}
 use Rattle.state_partial.specs.Parts.{IsFileAt, IsPartText, SaysNothing}
-use Rattle.state_partial.specs.Places.{AreRead, IsCoverOf}
+use Rattle.state_partial.specs.Places.{AreRead, IsCoverOf, text_by}
 use Rattle.state_partial.specs.Reads.{AreRowsOf, IsPartRead}
 use Rattle.state_law.specs.Told.{GroupsAreTold}
 use Rattle.state_law.specs.Truth.{IsReadOf}
@@ -194,7 +194,7 @@ whole_is : (query : Query) (s : Subject) (plan : FilePlan) (header : List (List 
 whole_is query s plan header fields is same = subst (λ (h : List (List ℕ)). missing_name h query.plan ≡ None) fields (subst (λ (q : Query). missing_name (header_of q.reading s) q.plan ≡ None) same is.whole)
 
 pub part_text : (words : List (List ℕ)) (asked : Asked) (query : Query) (bytes read : List ℕ) (p : Part) (part : IsPartRead query (Some read) p) (place : Place) (pre : Preface) (plan : FilePlan) (shape : Shape) (groups : List MapGroup)
-    (f : StateFile) (text : List ℕ) → asked_in words ≡ Some asked → AskFor asked.words query → AreRead asked.part.source asked.extent (map_list (exchanged query.reading.separator) bytes) place read → pre.subject.words ≡ asked.words → pre.subject.header ≡ p.header.items
+    (f : StateFile) (text : List ℕ) → asked_in words ≡ Some asked → AskFor asked.words query → AreRead asked.part.source asked.extent (text_by query bytes) place read → pre.subject.words ≡ asked.words → pre.subject.header ≡ p.header.items
     → pre.subject.sources ≡ asked.part.sources → IsCoverOf place p.rows pre.cover → pre.keys ≡ record { low = []; high = [] } → IsPlanOf pre.subject plan → plan.plan ≡ query → IsShapeOf plan.bound shape → groups ≡ listed p.map
     → GroupsAreTold → SavedIsRead → AreWords pre.subject.words → length pre.subject.header ≤ 2 ^ 28 → asked.part.source < asked.part.sources → asked.part.sources < 2 ^ 32 → IsCover asked.part.sources pre.cover
     → length (head_bytes pre) ≤ 2 ^ 28 → IsFileOf shape pre groups f → text ≡ file_bytes shape.kinds.now f → IsPartText words bytes text
@@ -216,7 +216,7 @@ part_text words asked query bytes read p part place pre plan shape groups f text
         place = place;
         read = read;
         are_read = are_read;
-        is_file = file_at query part.header read shape shape_is place f p.rows p.map part.are its (λ none some. one_record asked.part.source asked.extent (map_list (exchanged query.reading.separator) bytes) place read are_read none some)
+        is_file = file_at query part.header read shape shape_is place f p.rows p.map part.are its (λ none some. one_record asked.part.source asked.extent (text_by query bytes) place read are_read none some)
             (subst (λ (gs : List MapGroup). AreTuplesOf shape gs (tuples_in f)) groups_are is_file.are);
         words_are = ap (λ (pre : Preface). pre.subject.words) is_file.preface_is ∙ words_are;
         header_is = ap (λ (pre : Preface). records_in query.reading pre.subject.header) is_file.preface_is ∙ (ap (records_in query.reading) header ∙ part.one);
@@ -239,7 +239,7 @@ few_listed query header from (Counted many) m are =
 few_listed query header from (Refused why) m are = omega (arith, ap length (none_listed m are.none))
 
 -- a head has no room for it
-pub no_room : (asked : Asked) (query : Query) (bytes read : List ℕ) (p : Part) (part : IsPartRead query (Some read) p) (place : Place) → AskFor asked.words query → AreRead asked.part.source asked.extent bytes place read
+pub no_room : (asked : Asked) (query : Query) (bytes read : List ℕ) (p : Part) (part : IsPartRead query (Some read) p) (place : Place) → AskFor asked.words query → AreRead asked.part.source asked.extent (text_by query bytes) place read
     → HasNoRoom asked.words p.header.items p.rows → IsLongPart asked bytes
 no_room asked query bytes read p part place ask are_read none = record {
   query = query;
@@ -258,7 +258,7 @@ no_room asked query bytes read p part place ask are_read none = record {
 
 -- its head or its foot is too long
 pub long_part : (asked : Asked) (query : Query) (bytes read : List ℕ) (p : Part) (part : IsPartRead query (Some read) p) (place : Place) (pre : Preface) (plan : FilePlan) (shape : Shape) → AskFor asked.words query
-    → AreRead asked.part.source asked.extent bytes place read → pre.subject.words ≡ asked.words → pre.subject.header ≡ p.header.items → pre.subject.sources ≡ asked.part.sources → IsCoverOf place p.rows pre.cover
+    → AreRead asked.part.source asked.extent (text_by query bytes) place read → pre.subject.words ≡ asked.words → pre.subject.header ≡ p.header.items → pre.subject.sources ≡ asked.part.sources → IsCoverOf place p.rows pre.cover
     → pre.keys ≡ record { low = []; high = [] } → IsPlanOf pre.subject plan → plan.plan ≡ query → IsShapeOf plan.bound shape → IsShape shape → GroupsAreTold → LongIsKnown → DoNotFit shape pre (listed p.map) → IsLongPart asked bytes
 long_part asked query bytes read p part place pre plan shape ask are_read words_are header sources cover keys is same of_shape is_shape law known none =
     let shape_is : IsShapeOf (bound_plan part.header query.plan) shape = subst (λ (b : Plan). IsShapeOf b shape) (bound_is query (Some read) p part pre.subject plan header is same) of_shape in
