@@ -71,6 +71,6 @@ goes_wrong bytes opened shape fault is of none =
       query = opened.plan.plan;
       ask_for = subst (λ (s : Subject). AskFor s.words opened.plan.plan) (sym is.subject_is) is.is_plan.ask_for;
       shape = shape;
-      is_shape = subst (λ (s : Subject). IsShapeOf (bound_plan (header_of s) opened.plan.plan.plan) shape) (sym is.subject_is) (shape_of (subject_of opened.whole) opened.plan shape is.is_plan of);
+      is_shape = subst (λ (s : Subject). IsShapeOf (bound_plan (header_of opened.plan.plan.reading s) opened.plan.plan.plan) shape) (sym is.subject_is) (shape_of (subject_of opened.whole) opened.plan shape is.is_plan of);
       none = subst (λ (s : Subject). AreNoParts shape s is.front.keys map.empty bytes fault) (sym is.subject_is) by_keys;
     }
