@@ -7,3 +7,4 @@ mod Made
 mod Numbers
 mod Statuses
 mod Taken
+mod TextsAfter
