@@ -3,7 +3,8 @@
 //! The options that say so are taken off the words by `shown_words`, and the words that are left are the query. Without such an
 //! option the table goes straight to the output, as `stream_table` writes it. With one it is put together in memory first, and
 //! what is shown of it is a function of its text, so nothing is written before all of it is there, and a fault is the one that
-//! the query has without the option.
+//! the query has without the option. If the words say that the input has no header, its source gets one: the numbers of its
+//! columns.
 
 #![tactic(auto)]
 
@@ -23,6 +24,7 @@ ghost use Rattle.shown_stream.specs.declared.how.How.{How};
 ghost use Rattle.stream_groups.specs.declared.stop.Stop.{Stop};
 
 mod how;
+mod input;
 mod kept;
 mod text;
 
@@ -30,6 +32,7 @@ use crate::how::{how_of, say_memory, say_wrong};
 use crate::kept::end_kept;
 use crate::text::Text;
 pub use how::{ByColumn, How, refuse_options};
+pub use input::shown_input;
 use par_io::{Sink, Source};
 use par_stream::{Progress, READ_FAULT, Separated, TABLE, WRITE_FAULT, stream_table};
 pub use shown_words::{Taken, take_options};

@@ -70,7 +70,6 @@ never_written (no_part.Stopped (stop.Refused r)) is = cc is
 never_written (no_part.Stopped stop.WriteFault) is = cc is
 never_written (no_part.Stopped stop.Memory) is = cc is
 
-<<<<<<< ours
 -- ---- what a reason tells
 
 module _ (words : List (List ℕ)) (left : Option (List ℕ)) (asked : Asked) (is_asked : asked_in words ≡ Some asked) where
@@ -86,11 +85,11 @@ module _ (words : List (List ℕ)) (left : Option (List ℕ)) (asked : Asked) (i
   no_begin_is lacks (no_part.Stopped why) (inr is) = subst (IsStopOf words left) (sym is) tt
 
   module _ (query : Query) (ask : AskFor asked.words query) (read : Option (List ℕ)) (are_left : AreLeft asked.extent left read) where
-    tells_of : (why : Stop) → Tells query read why → TellsOfPart words left why
+    tells_of : (why : Stop) → Tells (of_bytes query.reading) query read why → TellsOfPart words left why
     tells_of why tells = record { asked = asked; is_asked = is_asked; query = query; ask_for = ask; read = read; are_left = are_left; tells = tells }
 
     -- a reason why what was read comes to nothing, but for a refused row
-    pub tells_stop : (why : Stop) → Tells query read why → ((r : RefusedRow) → why ≡ stop.Refused r → ⊥) → IsStopOf words left why
+    pub tells_stop : (why : Stop) → Tells (of_bytes query.reading) query read why → ((r : RefusedRow) → why ≡ stop.Refused r → ⊥) → IsStopOf words left why
     tells_stop stop.Usage tells no_row = absurd tells
     tells_stop stop.ReadFault tells no_row = tt
     tells_stop stop.NoHeader tells no_row = tells_of stop.NoHeader tells
@@ -100,20 +99,3 @@ module _ (words : List (List ℕ)) (left : Option (List ℕ)) (asked : Asked) (i
     tells_stop (stop.Refused r) tells no_row = absurd (no_row r refl)
     tells_stop stop.WriteFault tells no_row = tt
     tells_stop stop.Memory tells no_row = tt
-=======
-module _ (words : List (List ℕ)) (left : Option (List ℕ)) (asked : Asked) (is_asked : asked_in words ≡ Some asked) (query : Query) (ask : AskFor asked.words query) where
-  tells_of : (why : Stop) → Tells (of_bytes query.reading) query left why → TellsOfPart words left why
-  tells_of why tells = record { asked = asked; is_asked = is_asked; query = query; ask_for = ask; tells = tells }
-
-  -- a reason why a source comes to nothing, but for a refused row
-  pub tells_stop : (why : Stop) → Tells (of_bytes query.reading) query left why → ((r : RefusedRow) → why ≡ stop.Refused r → ⊥) → IsStopOf words left why
-  tells_stop stop.Usage tells no_row = absurd tells
-  tells_stop stop.ReadFault tells no_row = tt
-  tells_stop stop.NoHeader tells no_row = tells_of stop.NoHeader tells
-  tells_stop (stop.NoColumn said) tells no_row = tells_of (stop.NoColumn said) tells
-  tells_stop (stop.TwiceColumn said) tells no_row = tells_of (stop.TwiceColumn said) tells
-  tells_stop (stop.LongRecord row line said) tells no_row = tells_of (stop.LongRecord row line said) tells
-  tells_stop (stop.Refused r) tells no_row = absurd (no_row r refl)
-  tells_stop stop.WriteFault tells no_row = tt
-  tells_stop stop.Memory tells no_row = tt
->>>>>>> theirs

@@ -3,11 +3,7 @@ use Rattle.std.specs.Prelude.{◌≡◌, ◌<◌, ◌⊎◌, ℕ, List, IfSome, 
 use Rattle.answer_text.specs.declared.status.TheConstants.{MISUSED, READ_FAULT, TOO_LARGE}
 use Rattle.plan_spec.specs.Query.{Query}
 use Rattle.state_plan.specs.FilePlans.{AskFor, HaveNoQuery}
-<<<<<<< ours
-use Rattle.state_plan.specs.declared.file_plan.PlanFault.TheVariants as fault
 use Rattle.state_partial.specs.Places.{AreLeft, IsLonger}
-=======
->>>>>>> theirs
 use Rattle.state_partial.specs.Words.{Asked, asked_in}
 use Rattle.state_partial.specs.declared.no_part.NoPart.{NoPart}
 use Rattle.state_partial.specs.declared.no_part.NoPart.TheVariants as no_part
@@ -82,13 +78,9 @@ pub record TellsOfPart (words : List (List ℕ)) (left : Option (List ℕ)) (why
   pub is_asked : asked_in words ≡ Some asked
   pub query : Query
   pub ask_for : AskFor asked.words query
-<<<<<<< ours
   pub read : Option (List ℕ)
   pub are_left : AreLeft asked.extent left read
-  pub tells : Tells query read why
-=======
-  pub tells : Tells (of_bytes query.reading) query left why
->>>>>>> theirs
+  pub tells : Tells (of_bytes query.reading) query read why
 
 -- why the reading or the writing ended: a refused row is no reason
 abbrev pub IsStopOf : List (List ℕ) → Option (List ℕ) → Stop → Type 0

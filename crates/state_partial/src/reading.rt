@@ -81,12 +81,8 @@ fn counted_part<R: Threads + Sync>(
     read: ReadGroups,
     taken: Taken,
 ) -> Result<Part, Stop>
-<<<<<<< ours
-    requires { (query : Query) × (from : Option (List ℕ)) × AreGroupsOver query from read }
-    ensures read { IfOk result (λ part. (query : Query) (from left : Option (List ℕ)) (before after : ℕ) → AreGroupsOver query from read → IsAtEnd left → Takes from left before after (amount.Bytes 0) taken → IsPartRead query from part) }
-=======
+    requires { (query : Query) × (from : Option (List ℕ)) × AreGroupsOver (of_text query.reading) query from read }
     ensures read { IfOk result (λ part. (query : Query) (from left : Option (List ℕ)) (before after : ℕ) → query.reading ≡ plain → AreGroupsOver (of_text query.reading) query from read → IsAtEnd left → Takes from left before after (amount.Bytes 0) taken → IsPartRead query from part) }
->>>>>>> theirs
     ensures why { IfErr result (λ why. why ≡ stop.Memory) }
 {
     let Taken::Bytes(size) = taken else {

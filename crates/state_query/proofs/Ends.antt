@@ -33,10 +33,10 @@ use Rattle.state_query.proofs.Sums.{groups_by, input_by, with_shape}
 
 -- the plan over the columns of the header
 pub bound_is : (bytes : List ℕ) (l : Loaded) (is : IsLoaded bytes l) → l.plan.bound ≡ bound_of is.input
-bound_is bytes l is = is.is_plan.bound ∙ ap (λ (q : Query). bound_plan (header_of is.input.subject) q.plan) is.query_is
+bound_is bytes l is = is.is_plan.bound ∙ ap (λ (q : Query). bound_plan (header_of q.reading is.input.subject) q.plan) is.query_is
 
 pub bound_from : (bytes : List ℕ) (l : Loaded) → IsLoaded bytes l → IsBoundFrom l.plan.plan.plan l.plan.bound
-bound_from bytes l is = record { header = header_of is.input.subject; is = is.is_plan.bound }
+bound_from bytes l is = record { header = header_of l.plan.plan.reading is.input.subject; is = is.is_plan.bound }
 
 -- the keys and stretches of what is loaded
 keys_loaded : (bytes : List ℕ) (l : Loaded) (is : IsLoaded bytes l) (count : ℕ) → is.input.shape.columns ≡ count → All (λ (g : MapGroup). IsKeyOf count g.key) (listed l.sum.map)

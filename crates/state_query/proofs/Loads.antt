@@ -34,7 +34,7 @@ some_files shape front rest bytes [] begins is =
 some_files shape front rest bytes (f ∷ files) begins is = omega arith
 
 -- the shape of a plan over the columns of a header
-pub shape_of : (s : Subject) (plan : FilePlan) (shape : Shape) → IsPlanOf s plan → IsShapeOf plan.bound shape → IsShapeOf (bound_plan (header_of s) plan.plan.plan) shape
+pub shape_of : (s : Subject) (plan : FilePlan) (shape : Shape) → IsPlanOf s plan → IsShapeOf plan.bound shape → IsShapeOf (bound_plan (header_of plan.plan.reading s) plan.plan.plan) shape
 shape_of s plan shape is of = subst (λ (p : Plan). IsShapeOf p shape) is.bound of
 
 abbrev pub made_of : Whole → KeyRange → FilePlan → Shape → List StateFile → Input

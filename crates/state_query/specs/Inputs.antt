@@ -32,7 +32,7 @@ pub record Input : Type 0 where
 
 -- the plan over the columns of the header
 abbrev pub bound_of : Input → Plan
-bound_of i = bound_plan (header_of i.subject) i.query.plan
+bound_of i = bound_plan (header_of i.query.reading i.subject) i.query.plan
 
 -- the groups of all files, added up
 abbrev pub groups_in : Input → GroupsByKey
@@ -43,7 +43,7 @@ pub record IsInput (bytes : List ℕ) (i : Input) : Type 0 where
   pub some : 0 < length i.files
   pub ask_for : AskFor i.subject.words i.query
   pub one : length (records_of i.subject.header) ≡ 1
-  pub whole : missing_name (header_of i.subject) i.query.plan ≡ None
+  pub whole : missing_name (header_of i.query.reading i.subject) i.query.plan ≡ None
   pub is_shape : IsShapeOf (bound_of i) i.shape
   pub are : AreParts i.shape i.subject i.keys i.files
   pub is : bytes ≡ files_bytes i.shape i.files

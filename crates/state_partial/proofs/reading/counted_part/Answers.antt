@@ -1,8 +1,4 @@
-<<<<<<< ours
-use Rattle.std.proofs.Common.{length, rules, subst}
-=======
-use Rattle.std.proofs.Common.{◌∷◌, [], length, subst}
->>>>>>> theirs
+use Rattle.std.proofs.Common.{◌∷◌, [], length, rules, subst}
 use Rattle.stream_groups.specs.Taken.{Takes}
 use Rattle.stream_groups.specs.declared.taken.Taken.TheVariants as amount
 use Rattle.state_partial.proofs.Taken.{counted_rows, header_plain, taken_all}

@@ -1,8 +1,4 @@
-<<<<<<< ours
-use Rattle.std.proofs.Common.{rules, subst}
-=======
-use Rattle.std.proofs.Common.{ap, subst}
->>>>>>> theirs
+use Rattle.std.proofs.Common.{ap, rules, subst}
 use Rattle.std.proofs.lemmas.Result.{IfOk-weaker}
 use Rattle.csv_rows.specs.declared.cleaning.Reading.{Reading}
 use Rattle.stream_groups.specs.Stops.{Tells}

@@ -7,12 +7,7 @@ returns c = λ query from is names size.
     let r = c.args.row in
     record {
       header = names.header;
-<<<<<<< ours
-      one = names.one;
-      are = record { none = c.none.ensures; first = refused_rows_of query from r.row r.line r.why r.header.items (string_bytes r.said) names };
-=======
       one = header_plain query.reading r.header.items (names.header ∷ []) is names.one;
-      are = record { none = c.new.ensures.empty; first = refused_rows_of query from r.row r.line r.why r.header.items (string_bytes r.said) is names };
->>>>>>> theirs
+      are = record { none = c.none.ensures; first = refused_rows_of query from r.row r.line r.why r.header.items (string_bytes r.said) is names };
       size = size;
     }
