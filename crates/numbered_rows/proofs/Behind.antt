@@ -3,7 +3,7 @@ use Rattle.std.proofs.Common.{◌≡◌, ◌≢◌, ◌<◌, ◌≤◌, ◌+◌,
 use Rattle.std.specs.Prelude.{◌==◌, ◌&&◌, if◌then◌else◌, slice_index}
 use Rattle.std.proofs.lemmas.Bool.{cases_Bool, eq-eqb, ne_eqb}
 use Rattle.std.proofs.lemmas.Fmt.{decimal_digit}
-use Rattle.std.proofs.lemmas.List.{length-map, map-append}
+use Rattle.std.proofs.lemmas.List.{length-map, length-take, map-append}
 use Rattle.std.specs.Char.{is_ascii_digit}
 use Rattle.std.specs.List.{flat_map, range_with_len}
 use Rattle.csv.specs.Machine.{ends_at_end, field_after, fields_after, is_end, step}
@@ -135,5 +135,5 @@ pub numbers-are-header : NumbersAreHeader
 unfolding numbered
 numbers-are-header reading bytes is some =
     let few = few-columns reading.separator (take FRONT bytes) in
-    let short : length (take FRONT bytes) ≤ FRONT = omega arith in
+    let short = length-take FRONT bytes in
     behind reading bytes (width_of reading.separator (take FRONT bytes)) is some (omega (arith, few, short))

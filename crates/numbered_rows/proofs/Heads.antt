@@ -161,11 +161,11 @@ quoted-text sep ds t no_quote =
     let quote : exchanged sep 34 ≡ 34 = keeps sep 34 refl (other-way no_quote) in
     rw (quote, map-append (exchanged sep) ds (34 ∷ []), quote) (ap (λ (r : List ℕ). 34 ∷ r) (append_assoc (map (exchanged sep) ds) (34 ∷ []) t))
   where
-    other-way : (sep == 34) ≡ false → (34 == sep) ≡ false
-    other-way h = ne_eqb 34 sep (λ same. apart (sym h ∙ eq-eqb sep 34 (sym same)))
-
     apart : false ≡ true → ⊥
     apart h = cc h
+
+    other-way : (sep == 34) ≡ false → (34 == sep) ≡ false
+    other-way h = ne_eqb 34 sep (λ same. apart (sym h ∙ eq-eqb sep 34 (sym same)))
 
 pub number-run : (b first : Bool) (sep : ℕ) (ds : List ℕ) (fields : List (List ℕ)) (t : List ℕ) → is_ascii_digit sep ≡ b → (sep == 34) ≡ false → IsNumeral ds
     → all_from (start first) fields [] (map (exchanged sep) (marked b ds) ++ t) ≡ all_from (done b) fields (map (exchanged sep) ds) t

@@ -1,6 +1,6 @@
 -- What the files of an input come to.
 use Rattle.std.proofs.Common.{◌≡◌, ◌∙◌, ℕ, List, [], ◌∷◌, All, ap, get_or, length, map, subst, sym}
-use Rattle.csv_rows.specs.Readings.{IsSeparator, exchanged, records_as}
+use Rattle.csv_rows.specs.Readings.{exchanged, records_as, records_in}
 use Rattle.csv_rows.specs.Records.{record_at}
 use Rattle.csv_rows.specs.declared.cleaning.Reading.{Reading}
 use Rattle.par_model.specs.Named.{NamedPlan}
@@ -74,7 +74,7 @@ pub reading_is_made : AskForOne → ReadingIsMade
 reading_is_made once bytes i texts source text query header f input subject asks one read at =
     let words : f.preface.subject.words ≡ i.subject.words = ap (λ (s : Subject). s.words) subject in
     let same : query ≡ i.query = once i.subject.words query i.query (subst (λ (ws : Words). AskFor ws query) words asks) input.ask_for in
-    let head : header ≡ header_of query.reading i.subject = sym (first_record (records_as query.reading f.preface.subject.header) header one) ∙ ap (header_of query.reading) subject in
+    let head : header ≡ header_of query.reading i.subject = sym (first_record (records_in query.reading f.preface.subject.header) header one) ∙ ap (header_of query.reading) subject in
     let by_head = subst (λ (h : List (List ℕ)). IsReadOf query.plan query.reading h (whole_place source text) (map (exchanged query.reading.separator) text) f) head read in
     let by_query = subst (λ (q : Query). IsReadOf q.plan q.reading (header_of q.reading i.subject) (whole_place source text) (map (exchanged q.reading.separator) text) f) same by_head in
     let r = i.query.reading in
@@ -84,7 +84,7 @@ pub tile_reading_is_made : AskForOne → TileReadingIsMade
 tile_reading_is_made once bytes i texts p before query header f input subject asks one first cut is_tile read =
     let words : f.preface.subject.words ≡ i.subject.words = ap (λ (s : Subject). s.words) subject in
     let same : query ≡ i.query = once i.subject.words query i.query (subst (λ (ws : Words). AskFor ws query) words asks) input.ask_for in
-    let head : header ≡ header_of query.reading i.subject = sym (first_record (records_as query.reading f.preface.subject.header) header one) ∙ ap (header_of query.reading) subject in
+    let head : header ≡ header_of query.reading i.subject = sym (first_record (records_in query.reading f.preface.subject.header) header one) ∙ ap (header_of query.reading) subject in
     let all = with_header p.from before (bytes_at (work_of i texts) p) in
     let by_head = subst (λ (h : List (List ℕ)). IsReadOf query.plan query.reading h p all f) head read in
     let by_query = subst (λ (q : Query). IsReadOf q.plan q.reading (header_of q.reading i.subject) p all f) same by_head in

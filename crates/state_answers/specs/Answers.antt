@@ -1,7 +1,7 @@
 -- What the files of an input come to, in terms of the rows of the sources.
 use Rattle.std.specs.Prelude.{◌≡◌, ◌<◌, ◌^◌, ◌∷◌, ℕ, List, [], All, get_or, length, map}
 use Rattle.csv_rows.specs.Cuts.{IsCut}
-use Rattle.csv_rows.specs.Readings.{exchanged, records_as}
+use Rattle.csv_rows.specs.Readings.{exchanged, records_as, records_in}
 use Rattle.par_model.specs.Outcome.{IsAnswer}
 use Rattle.partial_agg.specs.Groups.{AreGroups}
 use Rattle.plan_spec.specs.Query.{Query}
@@ -62,10 +62,10 @@ IsTextAt texts source text = get_or texts source [] ≡ text
 -- what one reading of a whole source gives, by the plan that the words of its file ask for, came about of the sources of each input that has it
 abbrev pub ReadingIsMade : Type 0
 ReadingIsMade = (bytes : List ℕ) (i : Input) (texts : List (List ℕ)) (source : ℕ) (text : List ℕ) (query : Query) (header : List (List ℕ)) (f : StateFile) → IsInput bytes i → f.preface.subject ≡ i.subject
-    → AskFor f.preface.subject.words query → records_as query.reading f.preface.subject.header ≡ header ∷ [] → IsReadOf query.plan query.reading header (whole_place source text) (map (exchanged query.reading.separator) text) f → IsTextAt texts source text → IsMade (work_of i texts) f
+    → AskFor f.preface.subject.words query → records_in query.reading f.preface.subject.header ≡ header ∷ [] → IsReadOf query.plan query.reading header (whole_place source text) (map (exchanged query.reading.separator) text) f → IsTextAt texts source text → IsMade (work_of i texts) f
 
 -- so did what one reading of a tile gives, after the header
 abbrev pub TileReadingIsMade : Type 0
 TileReadingIsMade = (bytes : List ℕ) (i : Input) (texts : List (List ℕ)) (p : Place) (before : List ℕ) (query : Query) (header : List (List ℕ)) (f : StateFile) → IsInput bytes i → f.preface.subject ≡ i.subject
-    → AskFor f.preface.subject.words query → records_as query.reading f.preface.subject.header ≡ header ∷ [] → records_as query.reading before ≡ header ∷ [] → IsCut before → IsTile (work_of i texts) p
+    → AskFor f.preface.subject.words query → records_in query.reading f.preface.subject.header ≡ header ∷ [] → records_as query.reading before ≡ header ∷ [] → IsCut before → IsTile (work_of i texts) p
     → IsReadOf query.plan query.reading header p (with_header p.from before (bytes_at (work_of i texts) p)) f → IsMade (work_of i texts) f

@@ -1,7 +1,7 @@
 -- Bytes of files that came about of some sources, as an engine brings them, and what the forms come to over them.
 use Rattle.std.specs.Prelude.{◌≡◌, ◌<◌, ◌≤◌, ◌^◌, ◌++◌, ◌∷◌, ℕ, List, [], All, get_or, length}
 use Rattle.csv_rows.specs.Cuts.{IsCut}
-use Rattle.csv_rows.specs.Readings.{records_as}
+use Rattle.csv_rows.specs.Readings.{records_as, records_in}
 use Rattle.par_model.specs.Named.{bound_plan}
 use Rattle.par_model.specs.Outcome.{IsAnswer}
 use Rattle.partial_agg.specs.Groups.{AreGroups}
@@ -115,7 +115,7 @@ pub record IsPart (j : Job) (p : Place) (read : List ℕ) (f : StateFile) : Type
   pub query : Query
   pub ask_for : AskFor j.subject.words query
   pub header : List (List ℕ)
-  pub header_is : records_as query.reading j.subject.header ≡ header ∷ []
+  pub header_is : records_in query.reading j.subject.header ≡ header ∷ []
   pub is_read : IsReadOf query.plan query.reading header p read f
   pub subject_is : f.preface.subject ≡ j.subject
 

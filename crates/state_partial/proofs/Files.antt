@@ -28,8 +28,8 @@ use Rattle.state_head.specs.declared.cover.Stretch.{Stretch}
 use Rattle.state_order.specs.Order.{IsIn}
 use Rattle.state_plan.specs.FilePlans.{AskFor, IsPlanOf, header_of}
 use Rattle.state_plan.specs.declared.file_plan.FilePlan.{FilePlan}
-use Rattle.state_save.specs.Saving.{AreTuplesOf, IsFileOf, IsTold, SavedIsRead}
-use Rattle.state_whole.specs.Adding.{IsShapeOf}
+use Rattle.state_save.specs.Saving.{AreTuplesOf, DoNotFit, IsFileOf, IsTold, LongIsKnown, SavedIsRead}
+use Rattle.state_whole.specs.Adding.{IsShape, IsShapeOf}
 use Rattle.state_whole.specs.Files.{IsStateFile, StateFile, file_bytes, tuples_in}
 use Rattle.state_whole.specs.Sums.{has_refused, is_refused}
 use Rattle.state_whole.specs.declared.adding.Shape.{Shape}
@@ -38,8 +38,10 @@ use Rattle.state_partial.specs.Places.{AreRead, IsCoverOf}
 use Rattle.state_partial.specs.Reads.{AreRowsOf, IsPartRead}
 use Rattle.state_law.specs.Told.{GroupsAreTold}
 use Rattle.state_law.specs.Truth.{IsReadOf}
+use Rattle.state_partial.specs.TooLong.{HasNoRoom, IsLongPart}
 use Rattle.state_partial.specs.Words.{Asked, asked_in}
 use Rattle.state_partial.specs.declared.reading.Part.{Part}
+use Rattle.state_partial.proofs.Few.{few_groups}
 use Rattle.state_partial.proofs.Found.{one_record}
 
 -- what holds if a test succeeds
@@ -223,4 +225,63 @@ part_text words asked query bytes read p part place pre plan shape groups f text
       is_shape = shape_is;
       is_file = is_read query part.header (Some read) shape pre place p.rows p.map groups f law saved shape_is part.are groups_are cover keys front is_file;
       is_text = is_text;
+    }
+
+-- ---- that it is too long
+
+few_listed : (query : Query) (header : List (List ℕ)) (from : Option (List ℕ)) (rows : Rows) (m : GroupsByKey) → AreRowsOf query header from rows m → length (listed m) ≤ 2 ^ 50
+few_listed query header from (Counted many) m are =
+    let few = few_groups (bound_plan header query.plan) are.rows m are.are in
+    let most = are.few in
+    omega (arith, few, most)
+few_listed query header from (Refused why) m are = omega (arith, ap length (none_listed m are.none))
+
+-- a head has no room for it
+pub no_room : (asked : Asked) (query : Query) (bytes read : List ℕ) (p : Part) (part : IsPartRead query (Some read) p) (place : Place) → AskFor asked.words query → AreRead asked.part.source asked.extent bytes place read
+    → HasNoRoom asked.words p.header.items p.rows → IsLongPart asked bytes
+no_room asked query bytes read p part place ask are_read none = record {
+  query = query;
+  ask_for = ask;
+  place = place;
+  read = read;
+  are_read = are_read;
+  text = p.header.items;
+  header = part.header;
+  header_is = part.one;
+  rows = p.rows;
+  groups = p.map;
+  are = part.are;
+  long = inl none;
+}
+
+-- its head or its foot is too long
+pub long_part : (asked : Asked) (query : Query) (bytes read : List ℕ) (p : Part) (part : IsPartRead query (Some read) p) (place : Place) (pre : Preface) (plan : FilePlan) (shape : Shape) → AskFor asked.words query
+    → AreRead asked.part.source asked.extent bytes place read → pre.subject.words ≡ asked.words → pre.subject.header ≡ p.header.items → pre.subject.sources ≡ asked.part.sources → IsCoverOf place p.rows pre.cover
+    → pre.keys ≡ record { low = []; high = [] } → IsPlanOf pre.subject plan → plan.plan ≡ query → IsShapeOf plan.bound shape → IsShape shape → GroupsAreTold → LongIsKnown → DoNotFit shape pre (listed p.map) → IsLongPart asked bytes
+long_part asked query bytes read p part place pre plan shape ask are_read words_are header sources cover keys is same of_shape is_shape law known none =
+    let shape_is : IsShapeOf (bound_plan part.header query.plan) shape = subst (λ (b : Plan). IsShapeOf b shape) (bound_is query (Some read) p part pre.subject plan header is same) of_shape in
+    let told = told_by query part.header shape shape_is law p.rows (Some read) p.map part.are in
+    record {
+      query = query;
+      ask_for = ask;
+      place = place;
+      read = read;
+      are_read = are_read;
+      text = p.header.items;
+      header = part.header;
+      header_is = part.one;
+      rows = p.rows;
+      groups = p.map;
+      are = part.are;
+      long = inr (record {
+        preface = pre;
+        words_are = words_are;
+        header_is = header;
+        sources_are = sources;
+        cover_is = cover;
+        keys_are = keys;
+        shape = shape;
+        is_shape = shape_is;
+        long = known shape pre (listed p.map) is_shape told (few_listed query part.header (Some read) p.rows p.map part.are) none;
+      });
     }

@@ -5,7 +5,6 @@ use Rattle.csv_rows.specs.Records.{records_of}
 use Rattle.csv_rows.proofs.Machine.{all_from, records-all}
 use Rattle.state_head.specs.declared.cover.Place.{Place}
 use Rattle.state_partial.specs.NoPart.{HasNoBegin, OfTile, part_of_tile}
-use Rattle.state_partial.specs.Parts.{IsPartText}
 use Rattle.state_partial.specs.Places.{AreLeft, AreRead, HasNoPlace, IsLeft, IsLonger, IsPlaceOf, IsTileAt, tile_from, tile_place}
 use Rattle.state_partial.specs.Reads.{IsPartRead}
 use Rattle.state_partial.specs.declared.reading.Part.{Part}
@@ -89,12 +88,12 @@ left_some : (e : Extent) (bytes : List ℕ) (b : Begin) → IsLeft e bytes b Non
 left_some extent.Whole bytes b is = cc is
 left_some (extent.Tile span) bytes b begins = let bad = begins.left_is in cc bad
 
--- the file of what was read is that of a part
-pub part_made : (old mid : Option (List ℕ)) (e : Extent) (b : Begin) (query : Query) (part : Part) (source : ℕ) (p : Place) (words : List (List ℕ)) (text : List ℕ) → IfSome old (λ bytes. IsLeft e bytes b mid) → IsPartRead query mid part
-    → IsPlaceOf source e b part.size p → ((bytes read : List ℕ) → AreRead source e bytes p read → IsPartRead query (Some read) part → IsPartText words bytes text) → IfSome old (λ bytes. IsPartText words bytes text)
-part_made None mid e b query part source p words text left read at made = tt
-part_made (Some bytes) None e b query part source p words text left read at made = absurd (left_some e bytes b left)
-part_made (Some bytes) (Some given) e b query part source p words text left read at made = made bytes given (place_read source e bytes b (Some given) given part.size p left refl read.size at) read
+-- what is so of bytes that were read of a source is so of those that it brings
+pub part_made : (P : List ℕ → Type 0) (old mid : Option (List ℕ)) (e : Extent) (b : Begin) (query : Query) (part : Part) (source : ℕ) (p : Place) → IfSome old (λ bytes. IsLeft e bytes b mid) → IsPartRead query mid part
+    → IsPlaceOf source e b part.size p → ((bytes read : List ℕ) → AreRead source e bytes p read → IsPartRead query (Some read) part → P bytes) → IfSome old P
+part_made P None mid e b query part source p left read at made = tt
+part_made P (Some bytes) None e b query part source p left read at made = absurd (left_some e bytes b left)
+part_made P (Some bytes) (Some given) e b query part source p left read at made = made bytes given (place_read source e bytes b (Some given) given part.size p left refl read.size at) read
 
 -- ---- a source that has more than its size
 

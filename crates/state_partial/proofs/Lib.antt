@@ -1,4 +1,5 @@
 mod Commands
+mod Few
 mod Files
 mod Found
 mod Lines

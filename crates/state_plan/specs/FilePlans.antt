@@ -1,7 +1,7 @@
 -- The plan that a head names, over the columns of its header.
 use Rattle.std.specs.Prelude.{◌≡◌, ◌≢◌, ◌≤◌, ◌⊎◌, ℕ, List, None, Some, length}
-use Rattle.csv_rows.specs.Readings.{records_as}
-use Rattle.csv_rows.specs.Records.{record_at, records_of}
+use Rattle.csv_rows.specs.Readings.{records_in}
+use Rattle.csv_rows.specs.Records.{record_at}
 use Rattle.csv_rows.specs.declared.cleaning.Reading.{Reading}
 use Rattle.par_model.specs.Named.{bound_plan, missing_name}
 use Rattle.plan_spec.specs.Query.{Query, stream_query_of}
@@ -29,14 +29,14 @@ pub record AskForNothing (words : Words) : Type 0 where
 abbrev pub HaveNoQuery : Words → Type 0
 HaveNoQuery words = HaveNoCommand words ⊎ AskForNothing words
 
--- the fields of a header, each as it is read; its text has a comma between two of them
+-- the fields of a header, each as it is read
 abbrev pub header_of : Reading → Subject → List (List ℕ)
-header_of reading s = record_at (records_as reading s.header) 0
+header_of reading s = record_at (records_in reading s.header) 0
 
 -- the plan of a head: that of its words, over the columns of its header, which is one record, with the lanes of its aggregates
 pub record IsPlanOf (s : Subject) (p : FilePlan) : Type 0 where
   pub ask_for : AskFor s.words p.plan
-  pub one : length (records_of s.header) ≡ 1
+  pub one : length (records_in p.plan.reading s.header) ≡ 1
   pub bound : p.bound ≡ bound_plan (header_of p.plan.reading s) p.plan.plan
   pub whole : missing_name (header_of p.plan.reading s) p.plan.plan ≡ None
   pub lanes : p.lanes.items ≡ lanes_of p.bound.items
@@ -50,12 +50,18 @@ HaveNoPlan words fault.Words = HaveNoQuery words
 HaveNoPlan words fault.Header = ⊥
 HaveNoPlan words fault.Column = ⊥
 
--- why bytes are not one record
-abbrev pub IsNoHeader : List ℕ → PlanFault → Type 0
-IsNoHeader bytes fault.Memory = Unit {0}
-IsNoHeader bytes fault.Words = ⊥
-IsNoHeader bytes fault.Header = length (records_of bytes) ≢ 1
-IsNoHeader bytes fault.Column = ⊥
+-- why these records are not one
+abbrev pub IsNoHeader : List (List (List ℕ)) → PlanFault → Type 0
+IsNoHeader records fault.Memory = Unit {0}
+IsNoHeader records fault.Words = ⊥
+IsNoHeader records fault.Header = length records ≢ 1
+IsNoHeader records fault.Column = ⊥
+
+-- a header that is not one record for the query of its words
+pub record HasOtherRecords (s : Subject) : Type 0 where
+  pub query : Query
+  pub ask_for : AskFor s.words query
+  pub other : length (records_in query.reading s.header) ≢ 1
 
 -- a header that lacks a name of the plan
 pub record LacksName (s : Subject) : Type 0 where
@@ -68,5 +74,5 @@ pub record LacksName (s : Subject) : Type 0 where
 abbrev pub HasNoPlan : Subject → PlanFault → Type 0
 HasNoPlan s fault.Memory = Unit {0}
 HasNoPlan s fault.Words = HaveNoQuery s.words
-HasNoPlan s fault.Header = length (records_of s.header) ≢ 1
+HasNoPlan s fault.Header = HasOtherRecords s
 HasNoPlan s fault.Column = LacksName s

@@ -1,7 +1,7 @@
 -- What the bytes of an input are, and what they come to.
 use Rattle.std.specs.Prelude.{◌≡◌, ◌<◌, ℕ, List, All, None, length}
 use Rattle.std.specs.FinMap as map
-use Rattle.csv_rows.specs.Records.{records_of}
+use Rattle.csv_rows.specs.Readings.{records_in}
 use Rattle.par_model.specs.Named.{bound_plan, missing_name}
 use Rattle.par_model.specs.Plan.{Plan}
 use Rattle.partial_agg.specs.Groups.{GroupsByKey}
@@ -42,7 +42,7 @@ groups_in i = sum_of i.shape map.empty i.files
 pub record IsInput (bytes : List ℕ) (i : Input) : Type 0 where
   pub some : 0 < length i.files
   pub ask_for : AskFor i.subject.words i.query
-  pub one : length (records_of i.subject.header) ≡ 1
+  pub one : length (records_in i.query.reading i.subject.header) ≡ 1
   pub whole : missing_name (header_of i.query.reading i.subject) i.query.plan ≡ None
   pub is_shape : IsShapeOf (bound_of i) i.shape
   pub are : AreParts i.shape i.subject i.keys i.files

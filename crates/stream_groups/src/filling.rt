@@ -32,11 +32,15 @@ use text_lines::line_feeds;
 /// A window that begins with the header, whose record is beside it, whether it is the last, and how many line feeds come
 /// before its lines.
 #[derive(Drop)]
-pub(crate) struct First {
-    pub(crate) window: Window,
-    pub(crate) header: RowStore,
-    pub(crate) is_last: bool,
-    pub(crate) feeds: u64,
+pub struct First {
+    /// The window, which begins with the bytes of the header's line.
+    pub window: Window,
+    /// The header's record, alone.
+    pub header: RowStore,
+    /// Whether the source has ended.
+    pub is_last: bool,
+    /// Those of all bytes up to the end of the header's line.
+    pub feeds: u64,
 }
 
 /// The line in which a record begins, and what is said of it.
@@ -46,8 +50,8 @@ struct LongSaid {
     said: String,
 }
 
-/// The first window that has a record, with its fields read so.
-pub(crate) fn first_window<R: Wait, S: Source>(
+/// The first window that has a record, with its fields read so. It has `size` bytes, or more if its first record is longer.
+pub fn first_window<R: Wait, S: Source>(
     rt: &R,
     alloc: Global,
     reading: &Reading,
@@ -103,7 +107,7 @@ fn first_of(window: Window, header: RowStore, is_last: bool, feeds: u64) -> Resu
 }
 
 /// So many line feeds and those of some bytes, unless they are too many.
-pub(crate) fn more_feeds(feeds: u64, bytes: &[u8]) -> Result<u64, AllocError>
+pub fn more_feeds(feeds: u64, bytes: &[u8]) -> Result<u64, AllocError>
     requires { feeds ≤ 2 ^ 60 }
     ensures more { IfOk result (λ more. more ≡ feeds + count_feeds bytes.now) }
     ensures few { IfOk result (λ more. more ≤ 2 ^ 60) }
@@ -149,13 +153,7 @@ pub(crate) fn fill<S: Source>(
 
 /// The reason for a window that was not filled, before which there are so many records and line feeds: what was read of it,
 /// if a record is too long, is this text.
-pub(crate) fn stop_of_window(
-    alloc: Global,
-    why: WindowAnswer,
-    row: u64,
-    feeds: u64,
-    text: &[u8],
-) -> Stop
+pub fn stop_of_window(alloc: Global, why: WindowAnswer, row: u64, feeds: u64, text: &[u8]) -> Stop
     requires { feeds ≤ 2 ^ 60 }
     ensures { IsStopOfWindow why row feeds text.now result }
 {

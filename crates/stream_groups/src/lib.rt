@@ -12,6 +12,10 @@
 //!
 //! Fields are read as the plan says (`csv_rows::Reading`). A [`Separated`] source exchanges the comma and the separator, so
 //! windows are cut and scanned by commas, and the records of a window are those of the input.
+//!
+//! What finds the header, binds a plan to it and says of a row or a record why it ends a query is public too
+//! ([`first_window`], [`bind`], [`row_says`], [`place_in_lines`], [`stop_of_window`]), for a crate that reads rows in another
+//! way and gives the same reasons.
 
 #![tactic(auto)]
 
@@ -31,10 +35,14 @@ mod taken;
 mod twice;
 mod words;
 
+pub use filling::{First, first_window, more_feeds, stop_of_window};
 pub use gathered::{Gathered, all_groups, may_part};
 pub use input::read_input;
+pub use place::{Place, place_in_lines};
 pub use progress::{Progress, SoFar, Untold};
 pub use reading::{ReadGroups, read_groups};
+pub use refused::row_says;
+pub use rows::bind;
 pub use separated::Separated;
 pub use stop::{LONG_RECORD, RefusedRow, Stop};
 pub use taken::Taken;
