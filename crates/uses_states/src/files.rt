@@ -9,7 +9,7 @@ use state_head::{Head, KeyRange, Place, PlanWords, Rows, Stretch, Whole};
 use state_lanes::Lane;
 use state_load::add_files;
 use state_save::push_file;
-use state_whole::{Shape, Sum};
+use state_whole::{Kept, Shape, Sum};
 use std::alloc::Global;
 use std::test::Fail;
 
@@ -104,12 +104,17 @@ fn saved(rt: HostRuntime) -> Result<(), Fail> {
     Ok(())
 }
 
+/// All groups of the file are kept, or those from a key on.
 #[test]
 fn loaded(rt: HostRuntime) -> Result<(), Fail> {
-    let mut sum = Sum::new(rt.alloc());
-    let files = add_files(rt.alloc(), &mut sum, FILE, WHOLE, RANGE, &SHAPE);
-    assert!(rt; files == Ok(1));
-    assert!(rt; sum.map.len() == 2 && sum.cover.as_slice() == [STRETCH].as_slice());
+    let ends: [(&[u8], usize); 2] = [(b"", 2), (b"\x01\0\0\0b", 1)];
+    for (low, many) in ends {
+        let range = KeyRange { low, high: b"" };
+        let mut sum = Sum::new(rt.alloc(), Kept { columns: 1, range });
+        let files = add_files(rt.alloc(), &mut sum, FILE, WHOLE, RANGE, &SHAPE);
+        assert!(rt; files == Ok(1));
+        assert!(rt; sum.map.len() == many && sum.cover.as_slice() == [STRETCH].as_slice());
+    }
     Ok(())
 }
 
