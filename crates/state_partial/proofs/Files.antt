@@ -50,10 +50,6 @@ use Rattle.state_partial.proofs.Found.{one_record}
 pub on_true : {P : Type 0} (b : Bool) → b ≡ true → OnTrue b P → P
 on_true {P} b e holds = subst (λ (b : Bool). OnTrue b P) e holds
 
-pub if_not : (b : Bool) → not b ≡ true → b ≡ false
-if_not true e = cc e
-if_not false e = refl
-
 nil_of_length : {A : Type 0} (xs : List A) → length xs ≡ 0 → xs ≡ []
 nil_of_length [] e = refl
 nil_of_length (x ∷ xs) e = absurd (omega (arith, e))
