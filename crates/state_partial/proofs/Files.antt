@@ -1,5 +1,5 @@
 -- The file of what was read.
-use Rattle.std.proofs.Common.{inl, inr, ◌≡◌, ◌<◌, ◌≤◌, ◌^◌, ◌||◌, ◌∷◌, ◌∙◌, ℕ, Bool, true, false, List, [], All, Option, None, Some, ap, arith, length, not, refl, subst, sym}
+use Rattle.std.proofs.Common.{inl, inr, ◌≡◌, ◌<◌, ◌≤◌, ◌^◌, ◌||◌, ◌∷◌, ◌∙◌, ℕ, Bool, true, false, List, [], All, Option, None, Some, ap, arith, length, refl, subst, sym}
 use Rattle.std.specs.Bool.{OnTrue}
 use Rattle.std.specs.FinMap as map
 use Rattle.std.specs.Prelude.{map as map_list}

@@ -1,6 +1,5 @@
 use Rattle.std.proofs.lemmas.Result.{IfOk-weaker}
-use Rattle.tile_source.specs.Left.{lacks, source_left}
-use Rattle.state_partial.specs.NoPart.{IsWhyOf}
+use Rattle.tile_source.specs.Left.{source_left}
 use Rattle.state_partial.specs.Parts.{IsPartText}
 use Rattle.state_partial.specs.TooLong.{IsLongPart}
 use Rattle.state_partial.specs.Words.{asked_of}

@@ -6,7 +6,7 @@ use Rattle.answer_text.specs.Words.{texts}
 use Rattle.clap.proofs.WalkLemmas.{first_value-rows, raw_values-rows}
 use Rattle.clap.specs.Words.{App, all_of, app_of, first_of, found_of, is_simple_and_free, matches_of, rows_of}
 use Rattle.clap.specs.declared.parser.matches.ArgMatches.{ArgMatches}
-use Rattle.plan_spec.specs.Options.{flag_in, is_command_line, value_of, values_of}
+use Rattle.plan_spec.specs.Options.{is_command_line, value_of, values_of}
 use Rattle.plan_spec.proofs.Parsed.{refused_by, taken_by}
 use Rattle.state_partial.specs.Words.{filters_of, partial_command, reading_texts}
 use Rattle.state_partial.proofs.Commands.{partial_is_free}
