@@ -32,7 +32,7 @@ returns-in-None-clause-why g c = λ words is_asked.
     let old = source_left g.S.Source.left c.args.source.now in
     let mid = source_left g.S.Source.left c.begin_of.new.source in
     let asked = c.args.asked.now in
-    grown_why words (asked_of asked) is_asked c.args.plan c.requires.ask old _
+    grown_why words (asked_of asked) is_asked c.args.plan c.requires.ask old 0
     (longer old mid asked.extent c.in-Ok.begin c.args.plan c.in-Ok-read.part c.in-Ok.ensures.begun c.in-Ok-read.ensures.read (c.place_of.ensures.none c.in-None.is))
 
 pub returns-in-Err-clause-why : goal.returns-in-Err-clause-why
