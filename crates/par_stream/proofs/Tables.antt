@@ -1,5 +1,5 @@
 -- The text of the groups of all rows of a source.
-use Rattle.std.proofs.Common.{◌≡◌, ◌⊎◌, ◌≤◌, ◌^◌, ◌∷◌, ◌∙◌, inl, inr, ℕ, List, Option, None, Some, Result, Ok, Err, IfErr, IfSome, length, refl, ap, subst, sym, take}
+use Rattle.std.proofs.Common.{◌≡◌, ◌⊎◌, ◌≤◌, ◌^◌, ◌∷◌, ◌∙◌, inl, inr, ℕ, List, Option, None, Some, Result, Ok, Err, IfErr, IfSome, length, ap, subst, sym, take}
 use Rattle.std.specs.Io.KnownBytes.{Appends}
 use Rattle.csv_rows.specs.Records.{record_at}
 use Rattle.par_model.specs.Named.{bound_plan}

@@ -1,4 +1,3 @@
-use Rattle.std.proofs.Common.{◌≡◌, IfSome, List, Option, ℕ, take}
 use Rattle.std.proofs.lemmas.Result.{IfErr-weaker, on_ok_weaker}
 use Rattle.answer_text.specs.Words.{texts}
 use Rattle.plan_spec.specs.Query.{stream_query_of}
