@@ -70,7 +70,7 @@ fn main(rt: HostRuntime) -> ExitCode {
         if let Some(status) = refuse_input(&mut peeked, &mut err) {
             return ExitCode::from(status);
         }
-        let mut source = TileSource::new(peeked);
+        let mut source = TileSource::new(Separated::new(peeked));
         let status = partial_states(
             &rt,
             rt.alloc(),

@@ -17,7 +17,7 @@ use stream_groups::{Stop, read_words};
 
 /// The source as a query reads it that was taken off these words: its bytes, behind a header of the numbers of its columns if
 /// they say that it has none. Nothing is read yet. The words are read once more, for their separator.
-pub fn shown_input<S: Source>(
+pub fn shown_input<S: Source + Drop>(
     alloc: Global,
     taken: &Taken<'_>,
     source: S,

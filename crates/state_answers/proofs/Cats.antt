@@ -15,7 +15,8 @@ use Rattle.state_law.specs.Sources.{all_records, all_rows}
 use Rattle.state_plan.specs.FilePlans.{header_of}
 use Rattle.state_query.specs.Inputs.{bound_of, groups_in}
 use Rattle.state_query.specs.Ranges.{IsEndOf}
-use Rattle.state_range.specs.Ranges.{IsTextWithin, RangesAnswer, is_within, ranges_from}
+use Rattle.state_order.specs.Ranges.{is_within}
+use Rattle.state_range.specs.Ranges.{IsTextWithin, RangesAnswer, ranges_from}
 use Rattle.state_answers.specs.Sent.{FinalizeAnswers, IsJob, Job, SentGroupsAreAll, work_by}
 use Rattle.state_answers.specs.Touching.{AreTouching, Ends, IsRangeOfSent, RangesAgree, RangesAreTable, columns_by, touching}
 use Rattle.state_answers.proofs.Sent.{bound_same, query_same}

@@ -1,10 +1,9 @@
 -- Why there is no file of a part: the status, what its line says, and when it is so.
-use Rattle.std.specs.Prelude.{◌≡◌, ◌<◌, ◌⊎◌, ℕ, List, IfSome, None, Option, Some, codes, map, option_map, ⊤}
+use Rattle.std.specs.Prelude.{◌≡◌, ◌<◌, ◌⊎◌, ℕ, List, IfSome, None, Option, Some, codes, ⊤}
 use Rattle.answer_text.specs.declared.status.TheConstants.{MISUSED, READ_FAULT, TOO_LARGE}
-use Rattle.csv_rows.specs.Readings.{exchanged}
 use Rattle.plan_spec.specs.Query.{Query}
 use Rattle.state_plan.specs.FilePlans.{AskFor, HaveNoQuery}
-use Rattle.state_partial.specs.Places.{AreLeft, IsLonger}
+use Rattle.state_partial.specs.Places.{AreLeft, IsLonger, text_left}
 use Rattle.state_partial.specs.TooLong.{AskForLong}
 use Rattle.state_partial.specs.Words.{Asked, asked_in}
 use Rattle.state_partial.specs.declared.no_part.NoPart.{NoPart}
@@ -66,10 +65,6 @@ abbrev pub OfTile : (Span → List ℕ → Type 0) → Extent → Option (List �
 OfTile is extent.Whole left = ⊥
 OfTile is (extent.Tile span) left = IfSome left (is span)
 
--- the text with commas that a source brings, if it tells its bytes: what lies between fields is exchanged as the query says
-abbrev pub text_left : Query → Option (List ℕ) → Option (List ℕ)
-text_left query left = option_map (map (exchanged query.reading.separator)) left
-
 -- words ask for a tile of which this is so, by their query
 pub record AskForTile (is : Span → List ℕ → Type 0) (words : List (List ℕ)) (left : Option (List ℕ)) : Type 0 where
   pub asked : Asked
@@ -112,7 +107,7 @@ IsNoPart words left lacks no_part.Short = AskForTile IsShorter words left ⊎ (0
 IsNoPart words left lacks no_part.Grown = AskForTile IsLonger words left
 IsNoPart words left lacks (no_part.Stopped why) = IsStopOf words left why
 
--- a reason is one of whatever bytes this text is
+-- a reason is one of whatever source brings this text with commas
 abbrev pub IsWhyOf : List (List ℕ) → Query → Option (List ℕ) → ℕ → NoPart → Type 0
 IsWhyOf words query read lacks why = (left : Option (List ℕ)) → read ≡ text_left query left → IsNoPart words left lacks why
 

@@ -1,6 +1,6 @@
 -- What the rows of one source, or of a tile of it, come to, as a file.
-use Rattle.std.specs.Prelude.{◌≡◌, ◌⊎◌, ◌∷◌, ℕ, List, [], None, Option, Some, map}
-use Rattle.csv_rows.specs.Readings.{exchanged, records_as, records_in}
+use Rattle.std.specs.Prelude.{◌≡◌, ◌⊎◌, ◌∷◌, ℕ, List, [], None, IfSome, Option, Some}
+use Rattle.csv_rows.specs.Readings.{records_as, records_in}
 use Rattle.csv_rows.specs.declared.cleaning.Reading.{Reading}
 use Rattle.par_model.specs.Named.{NamedPlan, bound_plan, missing_name}
 use Rattle.plan_spec.specs.Query.{Query}
@@ -10,7 +10,7 @@ use Rattle.state_whole.specs.Adding.{IsShapeOf}
 use Rattle.state_whole.specs.Files.{IsStateFile, StateFile, file_bytes, tuples_in}
 use Rattle.state_whole.specs.declared.adding.Shape.{Shape}
 use Rattle.state_law.specs.Truth.{IsReadOf}
-use Rattle.state_partial.specs.Places.{AreRead, IsFilled}
+use Rattle.state_partial.specs.Places.{AreRead, IsFilled, text_by, text_left}
 use Rattle.state_partial.specs.Words.{Asked, asked_in}
 
 -- a file says nothing of a tile of no bytes: it has no stretch and no tuples
@@ -33,7 +33,7 @@ pub record IsPartOf (asked : Asked) (bytes : List ℕ) (f : StateFile) : Type 0 
   pub whole : missing_name header query.plan ≡ None
   pub place : Place
   pub read : List ℕ
-  pub are_read : AreRead asked.part.source asked.extent (map (exchanged query.reading.separator) bytes) place read
+  pub are_read : AreRead asked.part.source asked.extent (text_by query bytes) place read
   pub is_file : IsFileAt query.plan query.reading header place read f
   pub words_are : f.preface.subject.words ≡ asked.words
   pub header_is : records_in query.reading f.preface.subject.header ≡ header ∷ []
@@ -51,6 +51,6 @@ pub record IsPartText (words : List (List ℕ)) (bytes text : List ℕ) : Type 0
   pub is_file : IsStateFile shape.columns shape.kinds.now file
   pub is_text : text ≡ file_bytes shape.kinds.now file
 
--- these are the bytes of the file of whatever bytes this text is, with the comma and the separator of a query exchanged
+-- these are the bytes of the file of whatever source brings this text with commas
 abbrev pub IsTextOf : List (List ℕ) → Query → Option (List ℕ) → List ℕ → Type 0
-IsTextOf words query read text = (bytes : List ℕ) → read ≡ Some (map (exchanged query.reading.separator) bytes) → IsPartText words bytes text
+IsTextOf words query read text = (left : Option (List ℕ)) → read ≡ text_left query left → IfSome left (λ bytes. IsPartText words bytes text)

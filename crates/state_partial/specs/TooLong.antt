@@ -1,6 +1,6 @@
 -- When the rows of a source, or of a tile of it, come to more than a file has room for.
 use Rattle.std.specs.Prelude.{◌≡◌, ◌<◌, ◌⊎◌, ◌∷◌, ◌^◌, [], ℕ, List, IfSome, Option, Some, length}
-use Rattle.csv_rows.specs.Records.{records_of}
+use Rattle.csv_rows.specs.Readings.{records_in}
 use Rattle.par_model.specs.Named.{bound_plan}
 use Rattle.partial_agg.specs.Groups.{GroupsByKey}
 use Rattle.partial_agg.specs.Listed.{listed}
@@ -14,7 +14,7 @@ use Rattle.state_plan.specs.FilePlans.{AskFor}
 use Rattle.state_save.specs.Saving.{IsLongFile}
 use Rattle.state_whole.specs.Adding.{IsShapeOf}
 use Rattle.state_whole.specs.declared.adding.Shape.{Shape}
-use Rattle.state_partial.specs.Places.{AreRead, IsCoverOf}
+use Rattle.state_partial.specs.Places.{AreRead, IsCoverOf, text_by}
 use Rattle.state_partial.specs.Reads.{AreRowsOf}
 use Rattle.state_partial.specs.Words.{Asked, asked_in}
 
@@ -40,10 +40,10 @@ pub record IsLongPart (asked : Asked) (bytes : List ℕ) : Type 0 where
   pub ask_for : AskFor asked.words query
   pub place : Place
   pub read : List ℕ
-  pub are_read : AreRead asked.part.source asked.extent bytes place read
+  pub are_read : AreRead asked.part.source asked.extent (text_by query bytes) place read
   pub text : List ℕ
   pub header : List (List ℕ)
-  pub header_is : records_of text ≡ header ∷ []
+  pub header_is : records_in query.reading text ≡ header ∷ []
   pub rows : Rows
   pub groups : GroupsByKey
   pub are : AreRowsOf query header (Some read) rows groups

@@ -1,13 +1,12 @@
 //! The file of a part.
 
-ghost use Rattle.std.specs.Prelude.{◌≡◌, ◌<◌, ◌≤◌, ◌^◌, ◌⊎◌, [], ℕ, List, Option, IfErr, IfOk, Some, false, map, true};
-ghost use Rattle.csv_rows.specs.Readings.{exchanged};
+ghost use Rattle.std.specs.Prelude.{◌≡◌, ◌<◌, ◌≤◌, ◌^◌, ◌⊎◌, [], ℕ, List, Option, IfErr, IfOk, Some, false, true};
 ghost use Rattle.state_head.specs.Cover.{AreRows, IsCover};
 ghost use Rattle.state_head.specs.Head.{subject_of};
 ghost use Rattle.state_head.specs.Words.{keys_of, words_of};
 ghost use Rattle.state_plan.specs.FilePlans.{AskFor, IsPlanOf};
 ghost use Rattle.state_partial.specs.Parts.{IsPartText};
-ghost use Rattle.state_partial.specs.Places.{AreRead, IsCoverOf, IsFilled, IsWithin};
+ghost use Rattle.state_partial.specs.Places.{AreRead, IsCoverOf, IsFilled, IsWithin, text_by};
 ghost use Rattle.state_partial.specs.Reads.{IsPartRead};
 ghost use Rattle.state_partial.specs.TooLong.{IsLongPart};
 ghost use Rattle.state_partial.specs.Words.{asked_in, asked_of};
@@ -43,10 +42,10 @@ pub(crate) fn file_of<R: Threads + Sync>(
     requires read { (from : Option (List ℕ)) × IsPartRead plan from part }
     requires part { asked.now.part.source < asked.now.part.sources }
     requires place { IsWithin asked.now.part.source place }
-    ensures file { IfOk result (λ file. (words : List (List ℕ)) (bytes read : List ℕ) → asked_in words ≡ Some (asked_of asked.now) → AreRead asked.now.part.source asked.now.extent (map (exchanged plan.reading.separator) bytes) place read
+    ensures file { IfOk result (λ file. (words : List (List ℕ)) (bytes read : List ℕ) → asked_in words ≡ Some (asked_of asked.now) → AreRead asked.now.part.source asked.now.extent (text_by plan bytes) place read
         → IsPartRead plan (Some read) part → IsPartText words bytes file.items) }
     ensures why { IfErr result (λ why. (why ≡ no_part.Long) ⊎ (why ≡ no_part.Stopped stop.Memory)) }
-    ensures long { IfErr result (λ why. why ≡ no_part.Long → (bytes read : List ℕ) → AreRead asked.now.part.source asked.now.extent bytes place read → IsPartRead plan (Some read) part → IsLongPart (asked_of asked.now) bytes) }
+    ensures long { IfErr result (λ why. why ≡ no_part.Long → (bytes read : List ℕ) → AreRead asked.now.part.source asked.now.extent (text_by plan bytes) place read → IsPartRead plan (Some read) part → IsLongPart (asked_of asked.now) bytes) }
 {
     let Part {
         header,
