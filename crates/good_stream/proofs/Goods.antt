@@ -47,5 +47,5 @@ module _ (most : ℕ) (query : Query) (asked : Option Query) (is : asked ≡ Som
   unwritten left why kind = subst (λ (a : Option Query). TellsOfGood a left why) (sym is) (other kind)
     where
       other : (why ≡ stop.WriteFault) ⊎ (why ≡ stop.Memory) → (why ≢ stop.WriteFault) → Tells (of_bytes query.reading) query left why
-      other (inl write) no = absurd (no write)
-      other (inr memory) no = subst (Tells (of_bytes query.reading) query left) (sym memory) tt
+      other (inl write) never = absurd (never write)
+      other (inr memory) never = subst (Tells (of_bytes query.reading) query left) (sym memory) tt
