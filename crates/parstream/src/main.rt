@@ -13,7 +13,7 @@ mod progress;
 
 use input_hints::{Peeked, asked_of, refuse_input, refuse_words, tell};
 use par_io::{StdSink, StdSource};
-use par_stream::{NO_MEMORY, WINDOW_BYTES, say_usage};
+use par_stream::{NO_MEMORY, Separated, WINDOW_BYTES, say_usage};
 use progress::ProgressLine;
 use shown_stream::{refuse_options, shown_input, shown_table, take_options};
 use state_forms::{form_of, run_form};
