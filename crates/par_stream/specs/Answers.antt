@@ -1,7 +1,6 @@
 -- The text of a table.
 use Rattle.std.specs.Prelude.{◌≡◌, ◌≤◌, ◌^◌, ◌∷◌, ℕ, List, None, Option, Some, length}
 use Rattle.std.specs.Global.{Vec}
-use Rattle.csv_rows.specs.Readings.{records_in}
 use Rattle.csv_rows.specs.Records.{record_at}
 use Rattle.par_model.specs.Named.{NamedPlan, bound_plan}
 use Rattle.par_model.specs.Outcome.{IsAnswer, Table}
@@ -12,17 +11,21 @@ use Rattle.row_blocks.specs.Blocks.{Table as Records}
 use Rattle.stream_groups.specs.Gathering.{HasGathered}
 use Rattle.stream_groups.specs.Outcome.{outcome_over}
 use Rattle.stream_groups.specs.Twice.{twice_of}
-use Rattle.stream_groups.specs.Ways.{of_bytes}
+use Rattle.stream_groups.specs.Ways.{Way, of_bytes}
 use Rattle.stream_groups.specs.declared.gathered.Gathered.{Gathered}
 
--- a query is asked for, its outcome over bytes is a table, the header has no column of it twice, and this is the text of that
--- table; the records of the bytes are those that its reading gives
+-- the outcome of a query over bytes that are read so is a table, the header has no column of it twice, and this is the text of
+-- that table
+pub record IsTextOver (way : Way) (query : Query) (bytes text : List ℕ) : Type 0 where
+  pub has_table : outcome_over way query.plan bytes ≡ Table
+  pub once : twice_of (bound_plan (record_at (way.records bytes) 0) query.plan) (record_at (way.records bytes) 0) ≡ None
+  pub is_text : IsAnswer query.plan (way.records bytes) text
+
+-- a query is asked for, and this is its text over bytes whose records are those that its reading gives
 pub record IsTableText (asked : Option Query) (bytes text : List ℕ) : Type 0 where
   pub query : Query
   pub is : asked ≡ Some query
-  pub has_table : outcome_over (of_bytes query.reading) query.plan bytes ≡ Table
-  pub once : twice_of (bound_plan (record_at (records_in query.reading bytes) 0) query.plan) (record_at (records_in query.reading bytes) 0) ≡ None
-  pub is_text : IsAnswer query.plan (records_in query.reading bytes) text
+  pub over : IsTextOver (of_bytes query.reading) query bytes text
 
 -- the text of these pieces answers a plan, whatever the rows are that were gathered
 abbrev pub AnswersGathered : NamedPlan → Plan → Gathered → List (Vec ℕ) → Type 0

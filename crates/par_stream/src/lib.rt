@@ -29,7 +29,7 @@ ghost use Rattle.stream_groups.specs.declared.stop.Stop.TheVariants as stop;
 mod output;
 
 pub use answer_text::{MISUSED, NO_MEMORY, READ_FAULT, REFUSED, TABLE, WRITE_FAULT};
-use output::write_table;
+pub use output::write_table;
 use par_io::{Sink, Source};
 use std::alloc::Global;
 use std::sync::Wait;

@@ -1,13 +1,13 @@
 //! The writing of a table.
 
-ghost use Rattle.std.specs.Prelude.{◌≡◌, ◌≢◌, ◌⊎◌, ℕ, List, Option, IfErr, IfOk, IfSome, OnOk, Some, take};
+ghost use Rattle.std.specs.Prelude.{◌≡◌, ◌≢◌, ◌⊎◌, ℕ, List, Option, IfErr, IfOk, IfSome, OnOk, take};
 ghost use Rattle.std.specs.Io.KnownBytes.{Appends};
 ghost use Rattle.par_io.specs.Faults.{Rose};
 ghost use Rattle.result_text.specs.Printable.{IsBoundFrom};
-ghost use Rattle.par_stream.specs.Answers.{AnswersGathered, IsTableText};
+ghost use Rattle.par_stream.specs.Answers.{AnswersGathered, IsTextOver};
 ghost use Rattle.stream_groups.specs.Gathering.{AreGathered};
 ghost use Rattle.stream_groups.specs.Reading.{AreGroupsOver};
-ghost use Rattle.stream_groups.specs.Ways.{of_bytes};
+ghost use Rattle.stream_groups.specs.Ways.{Way};
 ghost use Rattle.stream_groups.specs.declared.gathered.Gathered.TheVariants as kept;
 ghost use Rattle.stream_groups.specs.declared.stop.Stop.TheVariants as stop;
 
@@ -26,19 +26,20 @@ use stream_groups::{Gathered, ReadGroups, Stop, all_groups, may_part};
 /// The fewest groups in all maps for which it pays to part their keys.
 const FEWEST_GROUPS: usize = 16_384;
 
-/// Makes the text of the table of these groups in pieces, and writes them one behind the other.
-pub(crate) fn write_table<R: Threads + Sync, O: Sink>(
+/// Makes the text of the table of these groups, of a plan and of whatever bytes they are over, in pieces, and writes them one
+/// behind the other. Time is that of ordering the groups, and memory that of the text.
+pub fn write_table<R: Threads + Sync, O: Sink>(
     rt: &R,
     alloc: Global,
     plan: &Plan,
     read: ReadGroups,
     out: &mut O,
 ) -> Result<(), Stop>
-    requires { (from : Option (List ℕ)) × AreGroupsOver (of_bytes plan.now.reading) plan.now from read }
-    ensures table { OnOk result ((from : Option (List ℕ)) → AreGroupsOver (of_bytes plan.now.reading) plan.now from read → IfSome from (λ bytes.
-        (text : List ℕ) × IsTableText (Some plan.now) bytes text × Appends (O.taken out.old) (O.taken out.new) text)) }
-    ensures part { IfErr result (λ why. why ≡ stop.WriteFault → (from : Option (List ℕ)) → AreGroupsOver (of_bytes plan.now.reading) plan.now from read → IfSome from (λ bytes.
-        (text : List ℕ) × IsTableText (Some plan.now) bytes text × (n : ℕ) × Appends (O.taken out.old) (O.taken out.new) (take n text))) }
+    requires { (way : Way) × (from : Option (List ℕ)) × AreGroupsOver way plan.now from read }
+    ensures table { OnOk result ((way : Way) (from : Option (List ℕ)) → AreGroupsOver way plan.now from read → IfSome from (λ bytes.
+        (text : List ℕ) × IsTextOver way plan.now bytes text × Appends (O.taken out.old) (O.taken out.new) text)) }
+    ensures part { IfErr result (λ why. why ≡ stop.WriteFault → (way : Way) (from : Option (List ℕ)) → AreGroupsOver way plan.now from read → IfSome from (λ bytes.
+        (text : List ℕ) × IsTextOver way plan.now bytes text × (n : ℕ) × Appends (O.taken out.old) (O.taken out.new) (take n text))) }
     ensures nothing { IfErr result (λ why. (why ≢ stop.WriteFault) → out.new ≡ out.old) }
     ensures write_fault { IfErr result (λ why. why ≡ stop.WriteFault → Rose (O.faults out.old) (O.faults out.new)) }
     ensures why { IfErr result (λ why. (why ≡ stop.WriteFault) ⊎ (why ≡ stop.Memory)) }
