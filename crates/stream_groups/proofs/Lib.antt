@@ -1,14 +1,14 @@
 mod AllEnds
-mod Batches
+pub mod Batches
 mod Doubles
 pub mod Exchanged
-mod Feeds
-mod Found
+pub mod Feeds
+pub mod Found
 pub mod Gathering
-mod Parts
+pub mod Parts
 mod Places
-mod ReadAs
+pub mod ReadAs
 pub mod Refusals
-mod Streams
+pub mod Streams
 mod Takes
-mod Windows
+pub mod Windows

@@ -32,11 +32,11 @@ use text_lines::line_feeds;
 /// A window that begins with the header, whose record is beside it, whether it is the last, and how many line feeds come
 /// before its lines.
 #[derive(Drop)]
-pub(crate) struct First {
-    pub(crate) window: Window,
-    pub(crate) header: RowStore,
-    pub(crate) is_last: bool,
-    pub(crate) feeds: u64,
+pub struct First {
+    pub window: Window,
+    pub header: RowStore,
+    pub is_last: bool,
+    pub feeds: u64,
 }
 
 /// The line in which a record begins, and what is said of it.
@@ -47,7 +47,7 @@ struct LongSaid {
 }
 
 /// The first window that has a record, with its fields read so.
-pub(crate) fn first_window<R: Wait, S: Source>(
+pub fn first_window<R: Wait, S: Source>(
     rt: &R,
     alloc: Global,
     reading: &Reading,
@@ -103,7 +103,7 @@ fn first_of(window: Window, header: RowStore, is_last: bool, feeds: u64) -> Resu
 }
 
 /// So many line feeds and those of some bytes, unless they are too many.
-pub(crate) fn more_feeds(feeds: u64, bytes: &[u8]) -> Result<u64, AllocError>
+pub fn more_feeds(feeds: u64, bytes: &[u8]) -> Result<u64, AllocError>
     requires { feeds ≤ 2 ^ 60 }
     ensures more { IfOk result (λ more. more ≡ feeds + count_feeds bytes.now) }
     ensures few { IfOk result (λ more. more ≤ 2 ^ 60) }
@@ -149,7 +149,7 @@ pub(crate) fn fill<S: Source>(
 
 /// The reason for a window that was not filled, before which there are so many records and line feeds: what was read of it,
 /// if a record is too long, is this text.
-pub(crate) fn stop_of_window(
+pub fn stop_of_window(
     alloc: Global,
     why: WindowAnswer,
     row: u64,

@@ -31,10 +31,14 @@ mod taken;
 mod twice;
 mod words;
 
+pub use filling::{First, first_window, more_feeds, stop_of_window};
 pub use gathered::{Gathered, all_groups, may_part};
 pub use input::read_input;
+pub use place::{Place, place_in_lines};
 pub use progress::{Progress, SoFar, Untold};
 pub use reading::{ReadGroups, read_groups};
+pub use refused::row_says;
+pub use rows::bind;
 pub use separated::Separated;
 pub use stop::{LONG_RECORD, RefusedRow, Stop};
 pub use taken::Taken;

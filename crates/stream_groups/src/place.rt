@@ -11,13 +11,13 @@ use text_lines::{line_feeds, open_quote, past_ends, record_begin};
 
 /// The line in which a record begins, and what is said of a quote in it that is not closed: nothing if there is none.
 #[derive(Drop)]
-pub(crate) struct Place {
-    pub(crate) line: u64,
-    pub(crate) quote: String,
+pub struct Place {
+    pub line: u64,
+    pub quote: String,
 }
 
 /// The place of the record of some lines before which there are so many others. So many line feeds come before these lines.
-pub(crate) fn place_in_lines(
+pub fn place_in_lines(
     alloc: Global,
     lines: &[u8],
     before: u64,

@@ -75,7 +75,7 @@ fn place_in(row: u64, before: u64, count: u64) -> Option<u64>
 }
 
 /// What the line says of a row that is refused.
-pub(crate) fn row_says(
+pub fn row_says(
     alloc: Global,
     plan: &Plan,
     bound: &BoundPlan,

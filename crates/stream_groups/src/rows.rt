@@ -25,7 +25,7 @@ use shown_text::missing_text;
 use std::alloc::{AllocError, Global};
 
 /// The plan over the columns of the records.
-pub(crate) fn bind(alloc: Global, plan: &Plan, store: &RowStore) -> Result<BoundPlan, Stop>
+pub fn bind(alloc: Global, plan: &Plan, store: &RowStore) -> Result<BoundPlan, Stop>
     requires { length store.now ≡ 1 }
     ensures bound { IfOk result (IsBound plan.now (record_at store.now 0)) }
     ensures why { IfErr result (SaysOfHeader plan.now.plan (record_at store.now 0)) }

@@ -29,7 +29,7 @@ impl<S: Source> Separated<S> {
     }
 
     /// From here on the comma and this byte are exchanged.
-    pub(crate) fn separate(&mut self, separator: u8)
+    pub fn separate(&mut self, separator: u8)
         ensures exchanged { exchanged_left S.left self.new ≡ option_map (map (exchanged separator)) (bare_left S.left self.old) }
         ensures left { bare_left S.left self.new ≡ bare_left S.left self.old }
         ensures faults { bare_faults S.faults self.new ≡ bare_faults S.faults self.old }
