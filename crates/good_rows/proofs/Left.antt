@@ -52,7 +52,7 @@ begins_one c more line = record { some = omega arith; is = line }
 -- ---- a text that begins with the end of a line
 
 -- outside quotes, it is cut at its end
-pub begun_cut : (line : List ℕ) (p : Place) → BeginsLine line → p ≡ place_after place.Opens line → p ≢ place.Quoted → IsCut line
+begun_cut : (line : List ℕ) (p : Place) → BeginsLine line → p ≡ place_after place.Opens line → p ≢ place.Quoted → IsCut line
 begun_cut line p begins is apart = ap ends_quoted (no_mark line begins) ∙ scan-cut line (λ quoted. apart (is ∙ quoted))
 
 -- it has one record at most, if it is one line

@@ -1,5 +1,5 @@
 mod AllEnds
-pub mod Batches
+mod Batches
 mod Doubles
 pub mod Exchanged
 pub mod Feeds

@@ -33,9 +33,13 @@ use text_lines::line_feeds;
 /// before its lines.
 #[derive(Drop)]
 pub struct First {
+    /// The window, which begins with the bytes of the header's line.
     pub window: Window,
+    /// The header's record, alone.
     pub header: RowStore,
+    /// Whether the source has ended.
     pub is_last: bool,
+    /// Those of all bytes up to the end of the header's line.
     pub feeds: u64,
 }
 
@@ -46,7 +50,7 @@ struct LongSaid {
     said: String,
 }
 
-/// The first window that has a record, with its fields read so.
+/// The first window that has a record, with its fields read so. It has `size` bytes, or more if its first record is longer.
 pub fn first_window<R: Wait, S: Source>(
     rt: &R,
     alloc: Global,
@@ -149,13 +153,7 @@ pub(crate) fn fill<S: Source>(
 
 /// The reason for a window that was not filled, before which there are so many records and line feeds: what was read of it,
 /// if a record is too long, is this text.
-pub fn stop_of_window(
-    alloc: Global,
-    why: WindowAnswer,
-    row: u64,
-    feeds: u64,
-    text: &[u8],
-) -> Stop
+pub fn stop_of_window(alloc: Global, why: WindowAnswer, row: u64, feeds: u64, text: &[u8]) -> Stop
     requires { feeds ≤ 2 ^ 60 }
     ensures { IsStopOfWindow why row feeds text.now result }
 {

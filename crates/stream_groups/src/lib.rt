@@ -12,6 +12,10 @@
 //!
 //! Fields are read as the plan says (`csv_rows::Reading`). A [`Separated`] source exchanges the comma and the separator, so
 //! windows are cut and scanned by commas, and the records of a window are those of the input.
+//!
+//! What finds the header, binds a plan to it and says of a row or a record why it ends a query is public too
+//! ([`first_window`], [`bind`], [`row_says`], [`place_in_lines`], [`stop_of_window`]), for a crate that reads rows in another
+//! way and gives the same reasons.
 
 #![tactic(auto)]
 

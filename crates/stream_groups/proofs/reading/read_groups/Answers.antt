@@ -79,4 +79,4 @@ returns-in_err-stream-2-clause-taken g c =
 
 -- the first window is read as the plan says
 pub open-requires-clause-lined : goal.open-requires-clause-lined
-open-requires-clause-lined g c κs within = subst (λ (r : Reading). IsLined r c.in_ok-first.first.window) c.reading-reading.ensures.value c.in_ok-first.ensures.lined
+open-requires-clause-lined g c = subst (λ (r : Reading). IsLined r c.in_ok-first.first.window) c.reading-reading.ensures.value c.in_ok-first.ensures.lined
