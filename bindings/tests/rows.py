@@ -3,7 +3,7 @@
 
 Takes the folder of the programs. The rows are those of examples/expected and examples/shell/expected, each command
 as it stands there, the standard input and output of the programs' crates, and what parstream says of words and of inputs
-that it refuses, as docs/SEMANTICS.md has it.
+that it refuses, as docs/SEMANTICS.md has it, and what is said if a standard stream can't be read or written.
 """
 
 import os
@@ -38,7 +38,7 @@ STREAMS = [
         b"g\n1\n",
         b"",
         b'parstream: "--plan" is not understood: the options are --group, --agg, --where, --decimals, --separator,'
-        b" --null, --trim, --workers, --order, --limit and --output; see parstream --help\n",
+        b" --null, --trim, --workers, --order, --limit, --output and --no-header; the input is the standard input, as in < FILE; see parstream --help\n",
         2,
     ),
     (
@@ -145,7 +145,7 @@ STREAMS = [
         2,
     ),
     ('--agg count --where g="1"', b"g\n1\n01\n", b"count\n1\n", b"", 0),
-    ("--agg count --where g=a --where v<2", b"g,v\nb,x\na,x\n", b"", b"parstream: row 2 (line 3): filter column \"v\" is not an integer: \"x\"\n", 1),
+    ("--agg count --where g=a --where v<2", b"g,v\nb,x\na,x\n", b"", b"parstream: row 2 (line 3): filter column \"v\" is not an integer: \"x\"; see --null\n", 1),
     (
         "--agg sum:price,avg:price --where price>=-2.0 --decimals price=2",
         b"price\n1.50\n-2\n+.5\n\n",
@@ -164,7 +164,7 @@ STREAMS = [
         "--agg sum:v",
         b'g,v\r\n"a\r\nb",1\r\n\r\nc,x\r\n',
         b"",
-        b'parstream: row 2 (line 5): column "v" is not an integer: "x"\n',
+        b'parstream: row 2 (line 5): column "v" is not an integer: "x"; see --null\n',
         1,
     ),
     (
@@ -189,6 +189,16 @@ STREAMS = [
         2,
     ),
     ("--group g --agg count", b"g,v,v\na,1,2\n", b"g,count\na,1\n", b"", 0),
+]
+
+# Where the standard input and output of a program come from that counts two records, and its line and status.
+FAULTS = [
+    ("<&-", b"read fault", 3),
+    ("0>/dev/null", b"read fault", 3),
+    ("</", b"read fault", 3),
+    (">&-", b"write fault", 4),
+    ("1</dev/null", b"write fault", 4),
+    ("</dev/null", b"no header", 2),
 ]
 
 
@@ -257,9 +267,17 @@ def stream_rows(programs):
         yield b"parstream " + os.fsencode(line), repr(got).encode(), repr(wanted).encode()
 
 
+def fault_rows(programs):
+    for name in ("pargather", "parstream"):
+        for streams, line, status in FAULTS:
+            result = run(programs, f"printf 'g\\n1\\n' | {name} --agg count {streams}")
+            wanted = b"%s: %s\n%d" % (name.encode(), line, status)
+            yield f"{name} {streams}".encode(), result.stdout + result.stderr + b"%d" % result.returncode, wanted
+
+
 def main():
     programs = os.path.abspath(sys.argv[1])
-    rows = [*example_rows(programs), *shell_rows(programs), *crate_rows(programs), *stream_rows(programs)]
+    rows = [*example_rows(programs), *shell_rows(programs), *crate_rows(programs), *stream_rows(programs), *fault_rows(programs)]
     wrong = [(line, got, wanted) for line, got, wanted in rows if got != wanted]
     for line, got, wanted in wrong:
         sys.stdout.buffer.write(b"rows: %s\n--- wanted\n%s--- got\n%s" % (line, wanted, got))

@@ -36,6 +36,14 @@ is_bzip2 bytes = begins bytes (0x42 ∷ 0x5a ∷ 0x68 ∷ []) && ((slice_index b
 abbrev pub is_json : List ℕ → Bool
 is_json bytes = begins bytes (codes "{\"") || begins bytes (codes "[{\"")
 
+-- a compound file of OLE ([MS-CFB] 2.2), as one of Excel before 2007 is: the first half of its signature
+abbrev pub is_ole : List ℕ → Bool
+is_ole bytes = begins bytes (0xd0 ∷ 0xcf ∷ 0x11 ∷ 0xe0 ∷ [])
+
+-- PDF (ISO 32000-2, 7.5.2): the front of its first line, up to the first digit of its version
+abbrev pub is_pdf : List ℕ → Bool
+is_pdf bytes = begins bytes (codes "%PDF-1") || begins bytes (codes "%PDF-2")
+
 -- a byte-order mark of UTF-32, in either order; the one begins with that of UTF-16
 abbrev pub has_long_mark : List ℕ → Bool
 has_long_mark bytes = begins bytes (0xff ∷ 0xfe ∷ 0x00 ∷ 0x00 ∷ []) || begins bytes (0x00 ∷ 0x00 ∷ 0xfe ∷ 0xff ∷ [])
@@ -62,10 +70,12 @@ kind_in bytes =
     else (if is_parquet bytes then Some kind.Parquet
     else (if is_bzip2 bytes then Some kind.Bzip2
     else (if is_json bytes then Some kind.Json
+    else (if is_ole bytes then Some kind.Ole
+    else (if is_pdf bytes then Some kind.Pdf
     else (if has_long_mark bytes then Some kind.Utf32
     else (if has_mark bytes then Some kind.Utf16
     else (if is_low_first bytes then Some kind.Utf16Low
-    else (if is_high_first bytes then Some kind.Utf16High else None))))))))))
+    else (if is_high_first bytes then Some kind.Utf16High else None))))))))))))
 
 -- what is said of it, with a command that makes text of it
 abbrev pub kind_text : Kind → List ℕ
@@ -76,6 +86,8 @@ kind_text kind.Zip = codes "the input is a zip archive: unzip -p FILE | parstrea
 kind_text kind.Parquet = codes "the input is Parquet: duckdb -csv -c \"FROM 'FILE'\" | parstream .."
 kind_text kind.Bzip2 = codes "the input is compressed by bzip2: bzcat FILE | parstream .."
 kind_text kind.Json = codes "the input is JSON: duckdb -csv -c \"FROM read_json('FILE')\" | parstream .."
+kind_text kind.Ole = codes "the input is a file of Excel before 2007 or the like: save it as CSV"
+kind_text kind.Pdf = codes "the input is PDF: save its table as CSV"
 kind_text kind.Utf32 = codes "the input is UTF-32: iconv -f UTF-32 -t UTF-8 FILE | parstream .."
 kind_text kind.Utf16 = codes "the input is UTF-16: iconv -f UTF-16 -t UTF-8 FILE | parstream .."
 kind_text kind.Utf16Low = codes "the input is UTF-16: iconv -f UTF-16LE -t UTF-8 FILE | parstream .."

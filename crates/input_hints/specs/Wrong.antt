@@ -146,7 +146,7 @@ wrong_in words = wrong_after words (understood words)
 -- what the value of an option may be
 abbrev pub values_text : Name → List ℕ
 values_text opt.Group = codes "--group takes one to eight names between commas"
-values_text opt.Agg = codes "--agg takes one to eight of count, count:C, sum:C, min:C, max:C and avg:C between commas"
+values_text opt.Agg = codes "--agg takes one to eight of count, count:C, sum:C, min:C, max:C and avg:C between commas, without spaces"
 values_text opt.Where = codes "--where takes a column, one of = != < <= > >=, and an integer, or a decimal with --decimals, as in 'qty>=10'; after = and != also a text, as in region=north"
 values_text opt.Workers = codes "--workers takes a number from 0 to 64"
 values_text opt.Decimals = codes "--decimals takes a number from 0 to 18, or one for each column, as in 'price=2,weight=3'"
@@ -156,7 +156,7 @@ values_text opt.Trim = codes "--trim takes no value"
 
 -- what may come
 abbrev pub expected_text : Expected → List ℕ
-expected_text may.Name = codes "the options are --group, --agg, --where, --decimals, --separator, --null, --trim, --workers, --order, --limit and --output"
+expected_text may.Name = codes "the options are --group, --agg, --where, --decimals, --separator, --null, --trim, --workers, --order, --limit, --output and --no-header; the input is the standard input, as in < FILE"
 expected_text may.Other = codes "this option may be given once"
 expected_text (may.Value name) = values_text name
 expected_text may.Items = codes "--agg ITEMS is missing"

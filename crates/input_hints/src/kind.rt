@@ -1,7 +1,7 @@
 //! Files that are no comma-separated text, by their first bytes.
 
 ghost use Rattle.std.specs.Prelude.{◌≡◌, slice_index};
-ghost use Rattle.input_hints.specs.Kinds.{has_long_mark, has_mark, is_bzip2, is_gzip, is_high_first, is_json, is_low_first, is_parquet, is_xz, is_zip, is_zstd, kind_in, kind_text};
+ghost use Rattle.input_hints.specs.Kinds.{has_long_mark, has_mark, is_bzip2, is_gzip, is_high_first, is_json, is_low_first, is_ole, is_parquet, is_pdf, is_xz, is_zip, is_zstd, kind_in, kind_text};
 
 /// What a file is.
 #[derive(Clone, Copy, Debug, PartialEq, Eq)]
@@ -15,6 +15,9 @@ pub enum Kind {
     Bzip2,
     /// An object, which may be the first of several, or a list of objects.
     Json,
+    /// A file of Excel before 2007, or of another program of its time.
+    Ole,
+    Pdf,
     /// With a byte-order mark.
     Utf32,
     /// With a byte-order mark.
@@ -44,6 +47,8 @@ impl Kind {
             Kind::Json => {
                 "the input is JSON: duckdb -csv -c \"FROM read_json('FILE')\" | parstream .."
             }
+            Kind::Ole => "the input is a file of Excel before 2007 or the like: save it as CSV",
+            Kind::Pdf => "the input is PDF: save its table as CSV",
             Kind::Utf32 => "the input is UTF-32: iconv -f UTF-32 -t UTF-8 FILE | parstream ..",
             Kind::Utf16 => "the input is UTF-16: iconv -f UTF-16 -t UTF-8 FILE | parstream ..",
             Kind::Utf16Low => {
@@ -74,6 +79,10 @@ pub fn kind_of(bytes: &[u8]) -> Option<Kind>
         Some(Kind::Bzip2)
     } else if is_json(bytes) {
         Some(Kind::Json)
+    } else if is_ole(bytes) {
+        Some(Kind::Ole)
+    } else if is_pdf(bytes) {
+        Some(Kind::Pdf)
     } else if has_long_mark(bytes) {
         Some(Kind::Utf32)
     } else if has_mark(bytes) {
@@ -142,6 +151,20 @@ fn is_json(bytes: &[u8]) -> bool
     ensures { result ≡ is_json bytes.now }
 {
     bytes.starts_with(b"{\"") || bytes.starts_with(b"[{\"")
+}
+
+/// Whether it is a compound file of OLE.
+fn is_ole(bytes: &[u8]) -> bool
+    ensures { result ≡ is_ole bytes.now }
+{
+    bytes.starts_with(&[0xd0, 0xcf, 0x11, 0xe0])
+}
+
+/// Whether it is PDF: a column may be named `%PDF`, but hardly `%PDF-1`.
+fn is_pdf(bytes: &[u8]) -> bool
+    ensures { result ≡ is_pdf bytes.now }
+{
+    bytes.starts_with(b"%PDF-1") || bytes.starts_with(b"%PDF-2")
 }
 
 /// Whether it begins with a byte-order mark of UTF-32.

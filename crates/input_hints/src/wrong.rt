@@ -417,7 +417,7 @@ impl Name {
         match self {
             Name::Group => "--group takes one to eight names between commas",
             Name::Agg => {
-                "--agg takes one to eight of count, count:C, sum:C, min:C, max:C and avg:C between commas"
+                "--agg takes one to eight of count, count:C, sum:C, min:C, max:C and avg:C between commas, without spaces"
             }
             Name::Where => {
                 "--where takes a column, one of = != < <= > >=, and an integer, or a decimal with --decimals, as in 'qty>=10'; after = and != also a text, as in region=north"
@@ -444,7 +444,7 @@ impl Expected {
     {
         match self {
             Expected::Name => {
-                "the options are --group, --agg, --where, --decimals, --separator, --null, --trim, --workers, --order, --limit and --output"
+                "the options are --group, --agg, --where, --decimals, --separator, --null, --trim, --workers, --order, --limit, --output and --no-header; the input is the standard input, as in < FILE"
             }
             Expected::Other => "this option may be given once",
             Expected::Value(name) => name.values(),

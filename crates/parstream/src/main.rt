@@ -13,9 +13,9 @@ mod progress;
 
 use input_hints::{Peeked, asked_of, refuse_input, refuse_words, tell};
 use par_io::{StdSink, StdSource};
-use par_stream::{NO_MEMORY, Separated, WINDOW_BYTES, say_usage};
+use par_stream::{NO_MEMORY, WINDOW_BYTES, say_usage};
 use progress::ProgressLine;
-use shown_stream::{refuse_options, shown_table, take_options};
+use shown_stream::{refuse_options, shown_input, shown_table, take_options};
 use state_forms::{form_of, run_form};
 use state_partial::{part_words, partial_states};
 use std::env::Env;
@@ -97,7 +97,10 @@ fn main(rt: HostRuntime) -> ExitCode {
     if let Some(status) = refuse_input(&mut source, &mut err) {
         return ExitCode::from(status);
     }
-    let mut source = Separated::new(source);
+    let Ok(mut source) = shown_input(rt.alloc(), &taken, source) else {
+        let _ = eprintln!(rt; "parstream: out of memory");
+        return ExitCode::from(NO_MEMORY);
+    };
     let status = shown_table(
         &rt,
         rt.alloc(),

@@ -11,6 +11,7 @@ use Rattle.shown_stream.specs.Ended.{EndsFor}
 use Rattle.stream_groups.specs.Lines.{line}
 use Rattle.stream_groups.specs.Outcome.{outcome_over}
 use Rattle.stream_groups.specs.Stops.{TellsOf, stop_says}
+use Rattle.stream_groups.specs.Ways.{of_bytes}
 use Rattle.stream_groups.specs.declared.stop.Stop.{Stop}
 use Rattle.stream_groups.specs.declared.stop.Stop.TheVariants as stop
 
@@ -29,9 +30,9 @@ module _ (from : Option (List ℕ)) where
   tells_write None query a b is table = cc is
   tells_write (Some asked) query a b is table = tells from table
     where
-      tells : (from : Option (List ℕ)) → IfSome from (λ bytes. (text : List ℕ) × IsTableText (Some asked) bytes text × Appends a b text) → IfSome from (λ bytes. outcome_over asked.plan bytes ≡ Table)
+      tells : (from : Option (List ℕ)) → IfSome from (λ bytes. (text : List ℕ) × IsTableText (Some asked) bytes text × Appends a b text) → IfSome from (λ bytes. outcome_over (of_bytes asked.reading) asked.plan bytes ≡ Table)
       tells None table = tt
-      tells (Some bytes) table = ap (λ (o : Option Query). outcome_over (unwrap_or o asked).plan bytes) table.1.is ∙ table.1.has_table
+      tells (Some bytes) table = ap (λ (o : Option Query). outcome_over (of_bytes (unwrap_or o asked).reading) (unwrap_or o asked).plan bytes) table.1.is ∙ table.1.has_table
 
   -- the reason of a query that was kept is one that it has
   pub why_kept : (asked : Option Query) (query : Query) (a b : Option (List ℕ)) (status ends : ℕ) (start said : List ℕ) (none_yet faults : ℕ) (old new : Option (List ℕ)) (before now : ℕ)

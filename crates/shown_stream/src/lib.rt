@@ -3,7 +3,8 @@
 //! The options that say so are taken off the words by `shown_words`, and the words that are left are the query. Without such an
 //! option the table goes straight to the output, as `stream_table` writes it. With one it is put together in memory first, and
 //! what is shown of it is a function of its text, so nothing is written before all of it is there, and a fault is the one that
-//! the query has without the option.
+//! the query has without the option. If the words say that the input has no header, its source gets one: the numbers of its
+//! columns.
 
 #![tactic(auto)]
 
@@ -17,11 +18,13 @@ ghost use Rattle.shown_stream.specs.Ended.{SaysWrong};
 ghost use Rattle.shown_stream.specs.Shown.{IsShownOf, how_in};
 ghost use Rattle.shown_words.specs.Taking.{taken_as};
 ghost use Rattle.stream_groups.specs.Lines.{line};
+ghost use Rattle.stream_groups.specs.Sources.{bare_faults, bare_left};
 ghost use Rattle.stream_groups.specs.Stops.{TellsOf, stop_says};
 ghost use Rattle.shown_stream.specs.declared.how.How.{How};
 ghost use Rattle.stream_groups.specs.declared.stop.Stop.{Stop};
 
 mod how;
+mod input;
 mod kept;
 mod text;
 
@@ -29,8 +32,9 @@ use crate::how::{how_of, say_memory, say_wrong};
 use crate::kept::end_kept;
 use crate::text::Text;
 pub use how::{ByColumn, How, refuse_options};
+pub use input::shown_input;
 use par_io::{Sink, Source};
-use par_stream::{Progress, READ_FAULT, TABLE, WRITE_FAULT, stream_table};
+use par_stream::{Progress, READ_FAULT, Separated, TABLE, WRITE_FAULT, stream_table};
 pub use shown_words::{Taken, take_options};
 use std::alloc::{AllocError, Global};
 use std::sync::Wait;
@@ -46,7 +50,7 @@ pub fn shown_table<R: Threads + Wait + Sync, S: Source, O: Sink, E: Sink, P: Pro
     rt: &R,
     alloc: Global,
     taken: &Taken<'_>,
-    source: &mut S,
+    source: &mut Separated<S>,
     out: &mut O,
     err: &mut E,
     window_bytes: usize,
@@ -58,16 +62,16 @@ pub fn shown_table<R: Threads + Wait + Sync, S: Source, O: Sink, E: Sink, P: Pro
 
     // Otherwise, on every status but that of a table, the reason, the status and the line are some that the query has without
     // the options.
-    ensures why { (result ≢ TABLE) → IfOk (how_in (taken_as taken.now)) (λ _. (why : Stop) × TellsOf (stream_query_of (taken_as taken.now).rest) (S.left source.old) why × (result ≡ (stop_says why).0)
+    ensures why { (result ≢ TABLE) → IfOk (how_in (taken_as taken.now)) (λ _. (why : Stop) × TellsOf (stream_query_of (taken_as taken.now).rest) (bare_left S.left source.old) why × (result ≡ (stop_says why).0)
         × IsSaid (E.taken err.old) (E.taken err.new) (E.faults err.old) (E.faults err.new) (line (stop_says why).1)) }
-    ensures read_fault { result ≡ READ_FAULT → Rose (S.faults source.old) (S.faults source.new) }
+    ensures read_fault { result ≡ READ_FAULT → Rose (bare_faults S.faults source.old) (bare_faults S.faults source.new) }
     ensures write_fault { result ≡ WRITE_FAULT → Rose (O.faults out.old) (O.faults out.new) }
     ensures quiet { result ≡ TABLE → err.new ≡ err.old }
 
     // `out` receives what is shown of the table, or a prefix of it if a write failed, and on every other status nothing.
-    ensures table { result ≡ TABLE → (how : How) × (how_in (taken_as taken.now) ≡ Ok how) × IfSome (S.left source.old) (λ bytes.
+    ensures table { result ≡ TABLE → (how : How) × (how_in (taken_as taken.now) ≡ Ok how) × IfSome (bare_left S.left source.old) (λ bytes.
         (text : List ℕ) × IsShownOf how (stream_query_of (taken_as taken.now).rest) bytes text × Appends (O.taken out.old) (O.taken out.new) text) }
-    ensures part { result ≡ WRITE_FAULT → (how : How) × (how_in (taken_as taken.now) ≡ Ok how) × IfSome (S.left source.old) (λ bytes.
+    ensures part { result ≡ WRITE_FAULT → (how : How) × (how_in (taken_as taken.now) ≡ Ok how) × IfSome (bare_left S.left source.old) (λ bytes.
         (text : List ℕ) × IsShownOf how (stream_query_of (taken_as taken.now).rest) bytes text × (n : ℕ) × Appends (O.taken out.old) (O.taken out.new) (take n text)) }
     ensures nothing { (result ≢ TABLE) → (result ≢ WRITE_FAULT) → out.new ≡ out.old }
 
@@ -97,20 +101,20 @@ fn show_query<R: Threads + Wait + Sync, S: Source, O: Sink, E: Sink, P: Progress
     alloc: Global,
     words: &[String],
     how: How,
-    source: &mut S,
+    source: &mut Separated<S>,
     out: &mut O,
     err: &mut E,
     window_bytes: usize,
     progress: &mut P,
 ) -> u8
-    ensures why { (result ≢ TABLE) → (why : Stop) × TellsOf (stream_query_of (texts words.now)) (S.left source.old) why × (result ≡ (stop_says why).0)
+    ensures why { (result ≢ TABLE) → (why : Stop) × TellsOf (stream_query_of (texts words.now)) (bare_left S.left source.old) why × (result ≡ (stop_says why).0)
         × IsSaid (E.taken err.old) (E.taken err.new) (E.faults err.old) (E.faults err.new) (line (stop_says why).1) }
-    ensures read_fault { result ≡ READ_FAULT → Rose (S.faults source.old) (S.faults source.new) }
+    ensures read_fault { result ≡ READ_FAULT → Rose (bare_faults S.faults source.old) (bare_faults S.faults source.new) }
     ensures write_fault { result ≡ WRITE_FAULT → Rose (O.faults out.old) (O.faults out.new) }
     ensures quiet { result ≡ TABLE → err.new ≡ err.old }
-    ensures table { result ≡ TABLE → IfSome (S.left source.old) (λ bytes.
+    ensures table { result ≡ TABLE → IfSome (bare_left S.left source.old) (λ bytes.
         (text : List ℕ) × IsShownOf how (stream_query_of (texts words.now)) bytes text × Appends (O.taken out.old) (O.taken out.new) text) }
-    ensures part { result ≡ WRITE_FAULT → IfSome (S.left source.old) (λ bytes.
+    ensures part { result ≡ WRITE_FAULT → IfSome (bare_left S.left source.old) (λ bytes.
         (text : List ℕ) × IsShownOf how (stream_query_of (texts words.now)) bytes text × (n : ℕ) × Appends (O.taken out.old) (O.taken out.new) (take n text)) }
     ensures nothing { (result ≢ TABLE) → (result ≢ WRITE_FAULT) → out.new ≡ out.old }
     ensures unread { IsNone (stream_query_of (texts words.now)) → source.new ≡ source.old }
@@ -138,20 +142,20 @@ fn show_kept<R: Threads + Wait + Sync, S: Source, O: Sink, E: Sink, P: Progress>
     alloc: Global,
     words: &[String],
     how: How,
-    source: &mut S,
+    source: &mut Separated<S>,
     out: &mut O,
     err: &mut E,
     window_bytes: usize,
     progress: &mut P,
 ) -> u8
-    ensures why { (result ≢ TABLE) → (why : Stop) × TellsOf (stream_query_of (texts words.now)) (S.left source.old) why × (result ≡ (stop_says why).0)
+    ensures why { (result ≢ TABLE) → (why : Stop) × TellsOf (stream_query_of (texts words.now)) (bare_left S.left source.old) why × (result ≡ (stop_says why).0)
         × IsSaid (E.taken err.old) (E.taken err.new) (E.faults err.old) (E.faults err.new) (line (stop_says why).1) }
-    ensures read_fault { result ≡ READ_FAULT → Rose (S.faults source.old) (S.faults source.new) }
+    ensures read_fault { result ≡ READ_FAULT → Rose (bare_faults S.faults source.old) (bare_faults S.faults source.new) }
     ensures write_fault { result ≡ WRITE_FAULT → Rose (O.faults out.old) (O.faults out.new) }
     ensures quiet { result ≡ TABLE → err.new ≡ err.old }
-    ensures table { result ≡ TABLE → IfSome (S.left source.old) (λ bytes.
+    ensures table { result ≡ TABLE → IfSome (bare_left S.left source.old) (λ bytes.
         (text : List ℕ) × IsShownOf how (stream_query_of (texts words.now)) bytes text × Appends (O.taken out.old) (O.taken out.new) text) }
-    ensures part { result ≡ WRITE_FAULT → IfSome (S.left source.old) (λ bytes.
+    ensures part { result ≡ WRITE_FAULT → IfSome (bare_left S.left source.old) (λ bytes.
         (text : List ℕ) × IsShownOf how (stream_query_of (texts words.now)) bytes text × (n : ℕ) × Appends (O.taken out.old) (O.taken out.new) (take n text)) }
     ensures nothing { (result ≢ TABLE) → (result ≢ WRITE_FAULT) → out.new ≡ out.old }
     ensures unread { IsNone (stream_query_of (texts words.now)) → source.new ≡ source.old }

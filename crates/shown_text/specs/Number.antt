@@ -1,6 +1,7 @@
 -- What is said of a field that is no number.
-use Rattle.std.specs.Prelude.{[], ◌==◌, ◌&&◌, ◌++◌, ℕ, Bool, zero, suc, List, codes, decimal, if◌then◌else◌}
-use Rattle.std.specs.List.{list_any}
+use Rattle.std.specs.Prelude.{[], ◌==◌, ◌&&◌, ◌++◌, ℕ, Bool, zero, suc, List, codes, decimal, if◌then◌else◌, nat_le}
+use Rattle.std.specs.Char.{is_ascii_whitespace}
+use Rattle.std.specs.List.{list_all, list_any}
 use Rattle.shown_text.specs.Shown.{shown_text}
 
 -- what a field is not that is no number of at most so many places
@@ -13,9 +14,20 @@ kind_text places = codes " is not a decimal with at most " ++ (decimal places ++
 abbrev pub is_point : ℕ → Bool
 is_point byte = byte == 46
 
--- what may help: a field with a point may be a decimal, which is no number if there are no places
+-- whether a byte is a digit
+abbrev pub is_digit : ℕ → Bool
+is_digit byte = nat_le 48 byte && nat_le byte 57
+
+-- what may help if a field has digits: one of nothing else is too large, and one with a point may be a decimal, which is no number if
+-- there are no places
+abbrev pub digits_help : ℕ → List ℕ → List ℕ
+digits_help places field = if list_all is_digit field then codes "; it does not fit in 64 bits"
+    else (if (places == 0) && list_any is_point field then codes "; see --decimals" else [])
+
+-- what may help: a field without a digit may be blank, or a word for a null
 abbrev pub help_text : ℕ → List ℕ → List ℕ
-help_text places field = if (places == 0) && list_any is_point field then codes "; see --decimals" else []
+help_text places field = if list_any is_digit field then digits_help places field
+    else (if list_all is_ascii_whitespace field then codes "; see --trim" else codes "; see --null")
 
 -- a field of a column that is no number of at most so many places
 abbrev pub number_text : List ℕ → ℕ → List ℕ → List ℕ

@@ -9,19 +9,25 @@ use Rattle.shown_text.specs.declared.escaped.TheConstants.{MOST_SHOWN}
 abbrev pub is_text_front : ℕ → List ℕ → Bool
 is_text_front size bytes = nat_le size (length bytes) && is_utf8 (take size bytes)
 
--- a control character past ASCII, U+0080 to U+009F, as UTF-8 writes it
+-- a control character past ASCII, U+0080 to U+009F, as UTF-8 writes it, the space that breaks no line, U+00A0, and the hyphen that is shown only at
+-- the end of a line, U+00AD
 abbrev pub is_control : List ℕ → Bool
-is_control bytes = (slice_index bytes 0 == 0xc2) && nat_lt (slice_index bytes 1) 0xa0
+is_control bytes = (slice_index bytes 0 == 0xc2) && (nat_le (slice_index bytes 1) 0xa0 || (slice_index bytes 1 == 0xad))
 
--- a mark that changes the order in which a line is read, or that begins another line: U+200E, U+200F, U+2028 to U+202E and U+2066 to U+2069
+-- a character that can't be seen, or changes the order in which a line is read, or begins another line: U+200B to U+200F, U+2028 to U+202E and
+-- U+2060 to U+2069
 abbrev pub is_mark : List ℕ → Bool
-is_mark bytes = (slice_index bytes 0 == 0xe2) && (((slice_index bytes 1 == 0x80) && ((slice_index bytes 2 == 0x8e) || ((slice_index bytes 2 == 0x8f) || (nat_le 0xa8 (slice_index bytes 2) && nat_le (slice_index bytes 2) 0xae))))
-    || ((slice_index bytes 1 == 0x81) && (nat_le 0xa6 (slice_index bytes 2) && nat_le (slice_index bytes 2) 0xa9)))
+is_mark bytes = (slice_index bytes 0 == 0xe2) && (((slice_index bytes 1 == 0x80) && ((nat_le 0x8b (slice_index bytes 2) && nat_le (slice_index bytes 2) 0x8f) || (nat_le 0xa8 (slice_index bytes 2) && nat_le (slice_index bytes 2) 0xae)))
+    || ((slice_index bytes 1 == 0x81) && (nat_le 0xa0 (slice_index bytes 2) && nat_le (slice_index bytes 2) 0xa9)))
+
+-- the mark of an order of bytes, U+FEFF, which can't be seen
+abbrev pub is_order_mark : List ℕ → Bool
+is_order_mark bytes = (slice_index bytes 0 == 0xef) && ((slice_index bytes 1 == 0xbb) && (slice_index bytes 2 == 0xbf))
 
 -- how many bytes of the front are a character past ASCII that is shown as it is
 abbrev pub plain_size : List ℕ → Option ℕ
 plain_size bytes =
-    if nat_lt (slice_index bytes 0) 128 || (is_control bytes || is_mark bytes) then None
+    if nat_lt (slice_index bytes 0) 128 || (is_control bytes || (is_mark bytes || is_order_mark bytes)) then None
     else (if is_text_front 2 bytes then Some 2 else (if is_text_front 3 bytes then Some 3 else (if is_text_front 4 bytes then Some 4 else None)))
 
 -- a byte that is shown by itself: ASCII that prints as it is, quotes and backslashes after a backslash, any other in hexadecimal

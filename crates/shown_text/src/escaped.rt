@@ -2,7 +2,7 @@
 
 ghost use Rattle.std.specs.Prelude.{◌≡◌, ◌<◌, ◌≤◌, ◌++◌, ◌∷◌, [], IfOk, IfSome, is_some, length, min, option_map, slice_index, string_bytes, take};
 ghost use Rattle.std.specs.Char.{digit_char};
-ghost use Rattle.shown_text.specs.Shown.{byte_text, end_text, front_text, is_control, is_mark, is_text_front, plain_size, shown_after, shown_text, step};
+ghost use Rattle.shown_text.specs.Shown.{byte_text, end_text, front_text, is_control, is_mark, is_order_mark, is_text_front, plain_size, shown_after, shown_text, step};
 
 use std::alloc::{AllocError, Global};
 use std::str;
@@ -11,7 +11,8 @@ use std::str;
 pub const MOST_SHOWN: usize = 40;
 
 /// The first bytes of a field, at most [`MOST_SHOWN`], in double quotes, with two points after them if it has more. A
-/// character past ASCII is shown as it is, unless it is a control character or changes the order of reading. Of the other
+/// character past ASCII is shown as it is, unless it is a control character, can't be seen, or changes the order of
+/// reading. Of the other
 /// bytes, those that print are shown, quotes and backslashes after a backslash, and all others as `\\x` and two digits. It
 /// takes at most 164 bytes.
 pub fn shown(alloc: Global, field: &[u8]) -> Result<String, AllocError>
@@ -27,7 +28,7 @@ pub fn put_shown(text: &mut String, field: &[u8]) -> Result<(), AllocError>
     ensures { IfOk result (λ _. string_bytes text.new ≡ string_bytes text.old ++ shown_text field.now) }
 {
     text.push_str("\"")?;
-    put_all(text, first_bytes(field))?;
+    put_escaped(text, first_bytes(field))?;
     text.push_str(end_quote(field))?;
     Ok(())
 }
@@ -50,8 +51,9 @@ fn end_quote(field: &[u8]) -> &'static str
     }
 }
 
-/// Puts what is shown of all these bytes.
-fn put_all(text: &mut String, bytes: &[u8]) -> Result<(), AllocError>
+/// Puts what is shown of all these bytes at the end of a text, without quotes. If memory runs out a part of it may be there. It
+/// takes at most four bytes for each.
+pub fn put_escaped(text: &mut String, bytes: &[u8]) -> Result<(), AllocError>
     ensures { IfOk result (λ _. string_bytes text.new ≡ string_bytes text.old ++ shown_after 0 bytes.now) }
 {
     let mut rest = bytes;
@@ -90,7 +92,7 @@ fn plain_front(bytes: &[u8]) -> Option<&str>
     ensures some { IfSome result (λ front. 0 < length front.now) }
     ensures within { IfSome result (λ front. length front.now ≤ length bytes.now) }
 {
-    if bytes[0] < 128 || (is_control(bytes) || is_mark(bytes)) {
+    if bytes[0] < 128 || (is_control(bytes) || (is_mark(bytes) || is_order_mark(bytes))) {
         return None;
     }
     if let Some(front) = text_front(bytes, 2) {
@@ -119,14 +121,16 @@ fn text_front(bytes: &[u8], size: usize) -> Option<&str>
     }
 }
 
-/// Whether bytes of UTF-8 begin with one of the control characters U+0080 to U+009F.
+/// Whether bytes of UTF-8 begin with one of the control characters U+0080 to U+009F, or with a space or a hyphen that can't
+/// be told from others or be seen.
 fn is_control(bytes: &[u8]) -> bool
     ensures { result ≡ is_control bytes.now }
 {
-    byte_at(bytes, 0) == 0xc2 && byte_at(bytes, 1) < 0xa0
+    let second = byte_at(bytes, 1);
+    byte_at(bytes, 0) == 0xc2 && (second <= 0xa0 || second == 0xad)
 }
 
-/// Whether bytes of UTF-8 begin with a mark that changes the order of reading, or that begins another line.
+/// Whether bytes of UTF-8 begin with a character that can't be seen, changes the order of reading, or begins another line.
 fn is_mark(bytes: &[u8]) -> bool
     ensures { result ≡ is_mark bytes.now }
 {
@@ -134,8 +138,15 @@ fn is_mark(bytes: &[u8]) -> bool
     let third = byte_at(bytes, 2);
     byte_at(bytes, 0) == 0xe2
         && ((second == 0x80
-            && (third == 0x8e || (third == 0x8f || (third >= 0xa8 && third <= 0xae))))
-            || (second == 0x81 && (third >= 0xa6 && third <= 0xa9)))
+            && ((third >= 0x8b && third <= 0x8f) || (third >= 0xa8 && third <= 0xae)))
+            || (second == 0x81 && (third >= 0xa0 && third <= 0xa9)))
+}
+
+/// Whether bytes of UTF-8 begin with the mark of an order of bytes.
+fn is_order_mark(bytes: &[u8]) -> bool
+    ensures { result ≡ is_order_mark bytes.now }
+{
+    byte_at(bytes, 0) == 0xef && (byte_at(bytes, 1) == 0xbb && byte_at(bytes, 2) == 0xbf)
 }
 
 /// The byte at a place, or 0 past the end.

@@ -10,7 +10,7 @@ mod header;
 mod number;
 mod width;
 
-pub use escaped::{MOST_SHOWN, put_shown, shown};
+pub use escaped::{MOST_SHOWN, put_escaped, put_shown, shown};
 pub use header::{MOST_FIELDS, missing_text};
 pub use number::number_text;
 pub use width::width_text;

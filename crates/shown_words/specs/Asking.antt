@@ -86,17 +86,25 @@ form_given [] = Ok written.Csv
 form_given (text ∷ []) = form_by (form_in text)
 form_given (text ∷ next ∷ rest) = Err (wrong.Twice opt.Output)
 
--- all three, or the first thing that is wrong: a value that is missing, the order, the limit, the form
-abbrev pub asked_by : Option Name → Result (Option NamedOrder) Wrong → Result (Option ℕ) Wrong → Result Form Wrong → Result NamedShown Wrong
-asked_by (Some name) order limit form = Err (wrong.Missing name)
-asked_by None (Err w) limit form = Err w
-asked_by None (Ok order) (Err w) form = Err w
-asked_by None (Ok order) (Ok limit) (Err w) = Err w
-asked_by None (Ok order) (Ok limit) (Ok form) = Ok (record { order = order; limit = limit; form = form })
+-- whether `--no-header` is given, by its values: there may be one, which is empty
+abbrev pub no_header_given : List (List ℕ) → Result Bool Wrong
+no_header_given [] = Ok false
+no_header_given ([] ∷ []) = Ok true
+no_header_given ((byte ∷ bytes) ∷ []) = Err (wrong.Value opt.NoHeader)
+no_header_given (text ∷ next ∷ rest) = Err (wrong.Twice opt.NoHeader)
+
+-- all of them, or the first thing that is wrong: a value that is missing, the order, the limit, the form, the header
+abbrev pub asked_by : Option Name → Result (Option NamedOrder) Wrong → Result (Option ℕ) Wrong → Result Form Wrong → Result Bool Wrong → Result NamedShown Wrong
+asked_by (Some name) order limit form no_header = Err (wrong.Missing name)
+asked_by None (Err w) limit form no_header = Err w
+asked_by None (Ok order) (Err w) form no_header = Err w
+asked_by None (Ok order) (Ok limit) (Err w) no_header = Err w
+asked_by None (Ok order) (Ok limit) (Ok form) (Err w) = Err w
+asked_by None (Ok order) (Ok limit) (Ok form) (Ok no_header) = Ok (record { order = order; limit = limit; form = form })
 
 -- what the options ask for
 abbrev pub asked_in : Took → Result NamedShown Wrong
-asked_in took = asked_by took.next (order_given took.orders) (limit_given took.limits) (form_given took.outputs)
+asked_in took = asked_by took.next (order_given took.orders) (limit_given took.limits) (form_given took.outputs) (no_header_given took.no_headers)
 
 -- the same of the values of the code
 abbrev pub order_as : OrderBy → NamedOrder

@@ -1,7 +1,7 @@
 //! What the options ask for.
 
 ghost use Rattle.std.specs.Prelude.{◌≡◌, ◌-◌, Err, MatchResult, Ok, codes, length, map, option_map};
-ghost use Rattle.shown_words.specs.Asking.{asked_as, asked_in, direction_in, form_given, has_end, limit_given, limit_in, named_in, order_as, order_given, order_in, without_end};
+ghost use Rattle.shown_words.specs.Asking.{asked_as, asked_in, direction_in, form_given, has_end, limit_given, limit_in, named_in, no_header_given, order_as, order_given, order_in, without_end};
 ghost use Rattle.shown_words.specs.Taking.{taken_as};
 
 use crate::taken::{Name, Taken};
@@ -41,6 +41,7 @@ pub fn asked_of<'a>(taken: &Taken<'a>) -> Result<Asked<'a>, Wrong>
     let order = order_given(taken.orders.as_slice())?;
     let limit = limit_given(taken.limits.as_slice())?;
     let form = form_given(taken.outputs.as_slice())?;
+    no_header_given(taken.no_headers.as_slice())?;
     Ok(Asked { order, limit, form })
 }
 
@@ -86,6 +87,18 @@ fn form_given(values: &[&str]) -> Result<Form, Wrong>
             None => Err(Wrong::Value(Name::Output)),
         },
         _ => Err(Wrong::Twice(Name::Output)),
+    }
+}
+
+/// Whether `--no-header` is given, by its values.
+fn no_header_given(values: &[&str]) -> Result<bool, Wrong>
+    ensures { result ≡ no_header_given (map (λ value. value.now) values.now) }
+{
+    match values {
+        [] => Ok(false),
+        [text] if text.is_empty() => Ok(true),
+        [_] => Err(Wrong::Value(Name::NoHeader)),
+        _ => Err(Wrong::Twice(Name::NoHeader)),
     }
 }
 

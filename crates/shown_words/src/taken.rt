@@ -2,27 +2,39 @@
 
 ghost use Rattle.std.specs.Prelude.{◌≡◌, IfOk, OnOk, option_map};
 ghost use Rattle.answer_text.specs.Words.{texts};
-ghost use Rattle.shown_words.specs.Taking.{name_in, option_in, taken_as, took_more, took_of, took_option, with_value};
+ghost use Rattle.shown_words.specs.Taking.{has_no_header, name_in, option_in, taken_as, took_more, took_of, took_option, with_name, with_value};
 ghost use Rattle.shown_words.specs.Words.{option_as};
 
 use std::alloc::{AllocError, Global};
 
-/// An option that says how a table is shown.
+/// An option that says how a table is shown, or that the input has no header.
 #[derive(Clone, Copy, Debug, PartialEq, Eq)]
 pub enum Name {
     Order,
     Limit,
     Output,
+    NoHeader,
 }
 
-/// The words that are left, the values of each option, and the option that the last word names if its value is missing.
+/// The words that are left, the values of each option, and the option that the last word names if its value is missing. Each
+/// `--no-header` has the empty value, or what comes after an equals sign.
 #[derive(Drop)]
 pub struct Taken<'a> {
     pub rest: Vec<String>,
     pub orders: Vec<&'a str>,
     pub limits: Vec<&'a str>,
     pub outputs: Vec<&'a str>,
+    pub no_headers: Vec<&'a str>,
     pub next: Option<Name>,
+}
+
+impl Taken<'_> {
+    /// Whether the input has no header.
+    pub fn has_no_header(&self) -> bool
+        ensures { result ≡ has_no_header (taken_as self.now) }
+    {
+        !self.no_headers.is_empty()
+    }
 }
 
 /// The options of the words. The time and the memory are linear in the words.
@@ -34,6 +46,7 @@ pub fn take_options<'a>(alloc: Global, words: &'a [String]) -> Result<Taken<'a>,
         orders: Vec::new(alloc),
         limits: Vec::new(alloc),
         outputs: Vec::new(alloc),
+        no_headers: Vec::new(alloc),
         next: None,
     };
     'words: for word in words {
@@ -59,11 +72,22 @@ fn take_option<'a>(alloc: Global, taken: &mut Taken<'a>, word: &'a str) -> Resul
 {
     match option_of(word) {
         None => put_rest(alloc, taken, word),
-        Some((name, None)) => {
+        Some((name, None)) => put_name(taken, name),
+        Some((name, Some(value))) => put_value(taken, name, value),
+    }
+}
+
+/// An option whose value is the next word, unless it takes none.
+fn put_name(taken: &mut Taken<'_>, name: Name) -> Result<(), AllocError>
+    requires { taken.old.next ≡ None }
+    ensures { OnOk result (taken_as taken.new ≡ with_name (taken_as taken.old) name) }
+{
+    match name {
+        Name::NoHeader => put_value(taken, name, ""),
+        _ => {
             taken.next = Some(name);
             Ok(())
         }
-        Some((name, Some(value))) => put_value(taken, name, value),
     }
 }
 
@@ -75,6 +99,7 @@ fn put_value<'a>(taken: &mut Taken<'a>, name: Name, value: &'a str) -> Result<()
         Name::Order => taken.orders.push(value)?,
         Name::Limit => taken.limits.push(value)?,
         Name::Output => taken.outputs.push(value)?,
+        Name::NoHeader => taken.no_headers.push(value)?,
     }
     taken.next = None;
     Ok(())
@@ -109,6 +134,8 @@ fn name_of(word: &str) -> Option<Name>
         Some(Name::Limit)
     } else if word == "--output" {
         Some(Name::Output)
+    } else if word == "--no-header" {
+        Some(Name::NoHeader)
     } else {
         None
     }

@@ -54,6 +54,7 @@ fn first_value<'a>(taken: &Taken<'a>, name: Name) -> &'a [u8]
         Name::Order => first_of(taken.orders.as_slice()),
         Name::Limit => first_of(taken.limits.as_slice()),
         Name::Output => first_of(taken.outputs.as_slice()),
+        Name::NoHeader => first_of(taken.no_headers.as_slice()),
     }
 }
 
@@ -125,6 +126,7 @@ fn name_text(name: Name) -> &'static str
         Name::Order => "--order",
         Name::Limit => "--limit",
         Name::Output => "--output",
+        Name::NoHeader => "--no-header",
     }
 }
 
@@ -138,5 +140,6 @@ fn values_text(name: Name) -> &'static str
         }
         Name::Limit => "--limit takes a number of one to eighteen digits",
         Name::Output => "--output takes csv, tsv, json or aligned",
+        Name::NoHeader => "--no-header takes no value",
     }
 }

@@ -1,15 +1,16 @@
--- The words of a file ask for one query, which has at most eight aggregates.
-use Rattle.std.proofs.Common.{◌≡◌, ◌≤◌, ◌^◌, ◌∙◌, ℕ, Bool, true, false, List, [], ◌∷◌, All, None, Option, Some, ap, arith, codes, cond, length, map, refl, subst, sym}
-use Rattle.std.specs.Prelude.{nat_le, option_and_then, option_map}
+-- The words of a file ask for one query, which has at most eight aggregates, and a separator that may be one.
+use Rattle.std.proofs.Common.{◌≡◌, ◌≢◌, ◌≤◌, ◌^◌, ◌∙◌, ℕ, Bool, true, false, List, [], ◌∷◌, All, None, Option, Some, ap, arith, codes, cond, length, map, refl, subst, sym}
+use Rattle.std.specs.Prelude.{◌==◌, ◌&&◌, bytes_eq, nat_le, nat_lt, not, option_and_then, option_map, slice_index}
 use Rattle.std.specs.List.{flat_map}
-use Rattle.std.proofs.lemmas.Bool.{leb-true}
+use Rattle.std.proofs.lemmas.Bool.{eq-eqb, leb-true, ltb-true}
 use Rattle.std.proofs.lemmas.List.{length-map}
 use Rattle.std.proofs.lemmas.List.Elements.{All-head, All-tail}
+use Rattle.csv_rows.specs.Readings.{IsSeparator}
 use Rattle.csv_rows.specs.declared.cleaning.Reading.{Reading}
 use Rattle.par_model.specs.Named.{NamedFilter, NamedItem}
-use Rattle.plan_spec.specs.Grammar.{Places, all_some, filters_in, item_in, items_in, parts_of}
+use Rattle.plan_spec.specs.Grammar.{Places, all_some, filters_in, is_separator, item_in, items_in, parts_of, separator_in}
 use Rattle.plan_spec.specs.Options.{flag_in, is_command_line, parstream_command, value_of, values_of}
-use Rattle.plan_spec.specs.Query.{Query, groups_given, items_given, number_given, places_given, query_by, reading_given, stream_query_of}
+use Rattle.plan_spec.specs.Query.{Query, groups_given, items_given, nulls_given, number_given, places_given, query_by, reading_given, separator_given, stream_query_of}
 use Rattle.state_file.specs.Text.{text_bytes}
 use Rattle.state_head.specs.Words.{Words}
 use Rattle.state_plan.specs.FilePlans.{AskFor}
@@ -74,29 +75,86 @@ given_few : (places : Places) (given : Option (List ℕ)) (items : List NamedIte
 given_few places None items e = cc
 given_few places (Some text) items e = items_few places text items e
 
-abbrev HasFew : Query → Type 0
-HasFew q = length q.plan.items ≤ 8
+-- ---- a separator that may be one
 
-by_few : (g : Option (List (List ℕ))) (i : Option (List NamedItem)) (f : Option (List NamedFilter)) (h : Option Bool) (w p : Option ℕ) (r : Option Reading) (q : Query) → ((items : List NamedItem) → i ≡ Some items → length items ≤ 8) → query_by g i f h w p r ≡ Some q → HasFew q
-by_few None i f h w p r q few e = cc
-by_few (Some g) None f h w p r q few e = cc
-by_few (Some g) (Some i) None h w p r q few e = cc
-by_few (Some g) (Some i) (Some f) None w p r q few e = cc
-by_few (Some g) (Some i) (Some f) (Some h) None p r q few e = cc
-by_few (Some g) (Some i) (Some f) (Some h) (Some w) None r q few e = cc
-by_few (Some g) (Some i) (Some f) (Some h) (Some w) (Some p) None q few e = cc
-by_few (Some g) (Some i) (Some f) (Some h) (Some w) (Some p) (Some r) q few e =
-    subst HasFew (some_is (record { plan = record { groups = g; items = i; hash = h; filters = f }; workers = w; area_pages = p; reading = r }) q e) (few i refl)
+both : (a b : Bool) → (a && b) ≡ true → (a ≡ true) × (b ≡ true)
+both true b e = (refl, e)
+both false b e = cc e
 
-few_by : (line : Bool) (g : Option (List (List ℕ))) (agg : Option (List ℕ)) (f : Places → Option (List NamedFilter)) (h : Option Bool) (w p : Option ℕ) (r : Option Reading) (places : Option Places) (q : Query)
-    → cond line (option_and_then (λ (places : Places). query_by g (items_given places agg) (f places) h w p r) places) None ≡ Some q → HasFew q
-few_by true g agg f h w p r None q e = cc
-few_by true g agg f h w p r (Some places) q e = by_few g (items_given places agg) (f places) h w p r q (λ items is. given_few places agg items is) e
-few_by false g agg f h w p r places q e = cc
+differs : (a b : ℕ) → not (a == b) ≡ true → a ≢ b
+differs a b e same = cc (ap not (eq-eqb a b same), e)
 
-pub few_items : (words : Words) (query : Query) → AskFor words query → HasFew query
+byte_separates : (byte : ℕ) → is_separator byte ≡ true → IsSeparator byte
+byte_separates byte e =
+    let low = both (nat_lt byte 128) (not (byte == 34) && (not (byte == 13) && not (byte == 10))) e in
+    let quote = both (not (byte == 34)) (not (byte == 13) && not (byte == 10)) low.1 in
+    let ends = both (not (byte == 13)) (not (byte == 10)) quote.1 in
+    record { ascii = ltb-true byte 128 low.0; no_quote = differs byte 34 quote.0; no_return = differs byte 13 ends.0; no_feed = differs byte 10 ends.1 }
+
+number_is : (m n : ℕ) → Some m ≡ Some n → m ≡ n
+number_is m n e = cc
+
+text_separates : (text : List ℕ) (s : ℕ) → separator_in text ≡ Some s → IsSeparator s
+text_separates text s e = go (bytes_eq text (codes "tab")) ((length text == 1) && is_separator (slice_index text 0)) refl e
+  where
+    go : (tab one : Bool) → ((length text == 1) && is_separator (slice_index text 0)) ≡ one → cond tab (Some 9) (cond one (Some (slice_index text 0)) None) ≡ Some s → IsSeparator s
+    go true one is f = subst IsSeparator (number_is 9 s f) (byte_separates 9 refl)
+    go false true is f = subst IsSeparator (number_is (slice_index text 0) s f) (byte_separates (slice_index text 0) (both (length text == 1) (is_separator (slice_index text 0)) is).1)
+    go false false is f = cc f
+
+given_separates : (given : Option (List ℕ)) (s : ℕ) → separator_given given ≡ Some s → IsSeparator s
+given_separates None s e = subst IsSeparator (number_is 44 s e) (byte_separates 44 refl)
+given_separates (Some text) s e = text_separates text s e
+
+reading_separates : (separator : Option (List ℕ)) (trim : Bool) (nulls : Option (List ℕ)) (r : Reading) → reading_given separator trim nulls ≡ Some r → IsSeparator r.separator
+reading_separates separator trim nulls r e = go (separator_given separator) (nulls_given nulls) refl e
+  where
+    reading_is : (a b : Reading) → Some a ≡ Some b → a ≡ b
+    reading_is a b e = cc
+
+    go : (byte : Option ℕ) (texts : Option (List ℕ)) → separator_given separator ≡ byte → option_and_then (λ (s : ℕ). option_map (λ (n : List ℕ). record { separator = s; trim = trim; nulls = n }) texts) byte ≡ Some r → IsSeparator r.separator
+    go None texts is f = cc f
+    go (Some s) None is f = cc f
+    go (Some s) (Some n) is f = subst (λ (q : Reading). IsSeparator q.separator) (reading_is (record { separator = s; trim = trim; nulls = n }) r f) (given_separates separator s is)
+
+-- ---- what a query that words ask for has
+
+abbrev Fits : Query → Type 0
+Fits q = (length q.plan.items ≤ 8) × IsSeparator q.reading.separator
+
+by_parts : (g : Option (List (List ℕ))) (i : Option (List NamedItem)) (f : Option (List NamedFilter)) (h : Option Bool) (w p : Option ℕ) (r : Option Reading) (q : Query) → ((items : List NamedItem) → i ≡ Some items → length items ≤ 8)
+    → ((reading : Reading) → r ≡ Some reading → IsSeparator reading.separator) → query_by g i f h w p r ≡ Some q → Fits q
+by_parts None i f h w p r q few sep e = cc
+by_parts (Some g) None f h w p r q few sep e = cc
+by_parts (Some g) (Some i) None h w p r q few sep e = cc
+by_parts (Some g) (Some i) (Some f) None w p r q few sep e = cc
+by_parts (Some g) (Some i) (Some f) (Some h) None p r q few sep e = cc
+by_parts (Some g) (Some i) (Some f) (Some h) (Some w) None r q few sep e = cc
+by_parts (Some g) (Some i) (Some f) (Some h) (Some w) (Some p) None q few sep e = cc
+by_parts (Some g) (Some i) (Some f) (Some h) (Some w) (Some p) (Some r) q few sep e =
+    subst Fits (some_is (record { plan = record { groups = g; items = i; hash = h; filters = f }; workers = w; area_pages = p; reading = r }) q e) (few i refl, sep r refl)
+
+parts_by : (line : Bool) (g : Option (List (List ℕ))) (agg : Option (List ℕ)) (f : Places → Option (List NamedFilter)) (h : Option Bool) (w p : Option ℕ) (r : Option Reading) (places : Option Places) (q : Query)
+    → ((reading : Reading) → r ≡ Some reading → IsSeparator reading.separator) → cond line (option_and_then (λ (places : Places). query_by g (items_given places agg) (f places) h w p r) places) None ≡ Some q → Fits q
+parts_by true g agg f h w p r None q sep e = cc
+parts_by true g agg f h w p r (Some places) q sep e = by_parts g (items_given places agg) (f places) h w p r q (λ items is. given_few places agg items is) sep e
+parts_by false g agg f h w p r places q sep e = cc
+
+fits : (words : Words) (query : Query) → AskFor words query → Fits query
 unfolding stream_query_of
-few_items words query a =
-    few_by (is_command_line parstream_command a.command) (groups_given (value_of parstream_command (codes "group") a.command)) (value_of parstream_command (codes "agg") a.command)
+fits words query a =
+    let separator = value_of parstream_command (codes "separator") a.command in
+    let trim = flag_in parstream_command (codes "trim") a.command in
+    let nulls = value_of parstream_command (codes "null") a.command in
+    parts_by (is_command_line parstream_command a.command) (groups_given (value_of parstream_command (codes "group") a.command)) (value_of parstream_command (codes "agg") a.command)
     (λ (places : Places). filters_in true places (values_of parstream_command (codes "where") a.command)) (Some false) (number_given 64 2 (value_of parstream_command (codes "workers") a.command)) (Some 2048)
-    (reading_given (value_of parstream_command (codes "separator") a.command) (flag_in parstream_command (codes "trim") a.command) (value_of parstream_command (codes "null") a.command)) (places_given (value_of parstream_command (codes "decimals") a.command)) query a.asks
+    (reading_given separator trim nulls) (places_given (value_of parstream_command (codes "decimals") a.command)) query
+    (λ reading is. reading_separates separator trim nulls reading is) a.asks
+
+-- at most eight aggregates
+pub few_items : (words : Words) (query : Query) → AskFor words query → length query.plan.items ≤ 8
+few_items words query a = (fits words query a).0
+
+-- and a separator
+pub separates : (words : Words) (query : Query) → AskFor words query → IsSeparator query.reading.separator
+separates words query a = (fits words query a).1

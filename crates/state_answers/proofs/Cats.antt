@@ -2,7 +2,6 @@
 use Rattle.std.proofs.Common.{◌≡◌, ◌∙◌, ◌∷◌, ℕ, List, [], None, Option, ap, cond, length, refl, subst, sym}
 use Rattle.std.specs.FinMap as map
 use Rattle.std.specs.List.{AllZip, concat}
-use Rattle.csv_rows.specs.Records.{records_of}
 use Rattle.par_model.specs.Key.{encoded}
 use Rattle.par_model.specs.Named.{NamedPlan, bound_plan}
 use Rattle.par_model.specs.Plan.{Plan}
@@ -16,7 +15,8 @@ use Rattle.state_law.specs.Sources.{all_records, all_rows}
 use Rattle.state_plan.specs.FilePlans.{header_of}
 use Rattle.state_query.specs.Inputs.{bound_of, groups_in}
 use Rattle.state_query.specs.Ranges.{IsEndOf}
-use Rattle.state_range.specs.Ranges.{IsTextWithin, RangesAnswer, is_within, ranges_from}
+use Rattle.state_order.specs.Ranges.{is_within}
+use Rattle.state_range.specs.Ranges.{IsTextWithin, RangesAnswer, ranges_from}
 use Rattle.state_answers.specs.Sent.{FinalizeAnswers, IsJob, Job, SentGroupsAreAll, work_by}
 use Rattle.state_answers.specs.Touching.{AreTouching, Ends, IsRangeOfSent, RangesAgree, RangesAreTable, columns_by, touching}
 use Rattle.state_answers.proofs.Sent.{bound_same, query_same}
@@ -40,7 +40,7 @@ by_groups names plan range rows m n text ms ns is = record {
 }
 
 abbrev plan_by : Job → Plan
-plan_by j = bound_plan (header_of j.subject) j.query.plan
+plan_by j = bound_plan (header_of j.query.reading j.subject) j.query.plan
 
 module _ (groups : SentGroupsAreAll) (j : Job) (job : IsJob j) where
   -- the groups of the files of one range
@@ -90,7 +90,7 @@ module _ (groups : SentGroupsAreAll) (j : Job) (job : IsJob j) where
 pub ranges_are_table : SentGroupsAreAll → RangesAnswer → RangesAreTable
 ranges_are_table groups answer j texts job touch =
     let some = some_groups groups j job touch.words texts touch.each in
-    answer j.query.plan (plan_by j) (header_of j.subject) (all_rows (work_by j)) some.m touch.rise.cuts texts refl touch.grouped some.are touch.rise.rise
+    answer j.query.plan (plan_by j) (header_of j.query.reading j.subject) (all_rows (work_by j)) some.m touch.rise.cuts texts refl touch.grouped some.are touch.rise.rise
     (all_ranges groups j job [] [] touch.words touch.rise.cuts texts some.m refl touch.rise.are some.are touch.each)
 
 pub ranges_agree : AnswersAgree → FinalizeAnswers → RangesAreTable → RangesAgree

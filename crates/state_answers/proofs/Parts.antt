@@ -7,7 +7,7 @@ use Rattle.row_blocks.specs.Blocks.{Table}
 use Rattle.state_head.specs.declared.cover.Place.{Place}
 use Rattle.state_law.specs.Law.{with_header}
 use Rattle.state_law.specs.Made.{tile, whole}
-use Rattle.state_law.specs.Sources.{bytes_at, whole_place}
+use Rattle.state_law.specs.Sources.{bytes_at, comma_text, whole_place}
 use Rattle.state_law.specs.Truth.{IsReadOf}
 use Rattle.state_plan.specs.FilePlans.{header_of}
 use Rattle.state_whole.specs.Files.{StateFile, file_bytes}
@@ -15,12 +15,12 @@ use Rattle.state_answers.specs.Sent.{IsJob, IsPart, IsSent, Job, MadeIsSent, Par
 use Rattle.state_answers.proofs.Asked.{ask_for_one}
 
 -- by the query and the header of the job
-read_by : (j : Job) (p : Place) (read : List ℕ) (f : StateFile) → IsJob j → IsPart j p read f → IsReadOf j.query.plan (header_of j.subject) p read f
+read_by : (j : Job) (p : Place) (read : List ℕ) (f : StateFile) → IsJob j → IsPart j p read f → IsReadOf j.query.plan j.query.reading (header_of j.query.reading j.subject) p read f
 read_by j p read f job part =
     let same : part.query ≡ j.query = ask_for_one j.subject.words part.query j.query part.ask_for job.ask_for in
-    let head : part.header ≡ header_of j.subject = sym (ap (λ (l : Table). record_at l 0) part.header_is) in
-    let by_query = subst (λ (q : Query). IsReadOf q.plan part.header p read f) same part.is_read in
-    subst (λ (h : List (List ℕ)). IsReadOf j.query.plan h p read f) head by_query
+    let head : part.header ≡ header_of part.query.reading j.subject = sym (ap (λ (l : Table). record_at l 0) part.header_is) in
+    let by_head = subst (λ (h : List (List ℕ)). IsReadOf part.query.plan part.query.reading h p read f) head part.is_read in
+    subst (λ (q : Query). IsReadOf q.plan q.reading (header_of q.reading j.subject) p read f) same by_head
 
 pub made_is_sent : MadeIsSent
 made_is_sent j f bytes made subject text = record {
@@ -35,7 +35,7 @@ pub part_is_sent : PartIsSent
 part_is_sent j source f bytes job part text =
     let t = get_or j.texts source [] in
     let p = whole_place source t in
-    made_is_sent j f bytes (whole source f (read_by j p t f job part)) part.subject_is text
+    made_is_sent j f bytes (whole source f (read_by j p (comma_text (work_by j) source) f job part)) part.subject_is text
 
 pub tile_is_sent : TileIsSent
 tile_is_sent j p before f bytes job one cut is_tile part text =

@@ -45,7 +45,7 @@ first_same j a b subject keys (f ∷ fs) (g ∷ gs) some parts sent e =
 
 -- the plan over the columns of a header
 abbrev pub bound_by : Subject → Query → Plan
-bound_by s q = bound_plan (header_of s) q.plan
+bound_by s q = bound_plan (header_of q.reading s) q.plan
 
 module _ (j : Job) (bytes : List ℕ) (i : Input) (job : IsJob j) (sent : AreSent j bytes) (input : IsInput bytes i) where
   subject_same : i.subject ≡ j.subject
@@ -75,7 +75,7 @@ module _ (j : Job) (bytes : List ℕ) (i : Input) (job : IsJob j) (sent : AreSen
   work_same = ap (λ (s : Subject). made_by j.query s) (sym subject_same) ∙ ap (λ (q : Query). made_by q i.subject) (sym query_same)
     where
       made_by : Query → Subject → Work
-      made_by q s = record { names = q.plan; header = header_of s; texts = j.texts }
+      made_by q s = record { names = q.plan; reading = q.reading; header = header_of q.reading s; texts = j.texts }
 
   made_of : All (IsMade (work_of i j.texts)) i.files
   made_of =

@@ -1,7 +1,7 @@
 -- Bytes of files that came about of some sources, as an engine brings them, and what the forms come to over them.
 use Rattle.std.specs.Prelude.{◌≡◌, ◌<◌, ◌≤◌, ◌^◌, ◌++◌, ◌∷◌, ℕ, List, [], All, get_or, length}
 use Rattle.csv_rows.specs.Cuts.{IsCut}
-use Rattle.csv_rows.specs.Records.{records_of}
+use Rattle.csv_rows.specs.Readings.{records_as, records_in}
 use Rattle.par_model.specs.Named.{bound_plan}
 use Rattle.par_model.specs.Outcome.{IsAnswer}
 use Rattle.partial_agg.specs.Groups.{AreGroups}
@@ -11,7 +11,7 @@ use Rattle.state_head.specs.declared.cover.Place.{Place}
 use Rattle.state_head.specs.declared.cover.Stretch.{Stretch}
 use Rattle.state_law.specs.Law.{with_header}
 use Rattle.state_law.specs.Made.{IsMade}
-use Rattle.state_law.specs.Sources.{IsTile, Work, all_records, all_rows, bytes_at, rows_in, whole_place}
+use Rattle.state_law.specs.Sources.{IsTile, Work, all_records, all_rows, bytes_at, comma_text, rows_in, whole_place}
 use Rattle.state_law.specs.Told.{all_keys}
 use Rattle.state_law.specs.Truth.{IsFirstOfAll, IsReadOf}
 use Rattle.state_load.specs.Loading.{files_bytes, stretches_of}
@@ -27,14 +27,14 @@ use Rattle.table_query.specs.Lines.{refusal_text}
 use Rattle.state_answers.specs.Answers.{IsOf}
 
 -- a query over some sources: the words, the header and the number of sources that its files say, the query that the words ask for, and
--- the text of each source
+-- the bytes of each source
 pub record Job : Type 0 where
   pub subject : Subject
   pub query : Query
   pub texts : List (List ℕ)
 
 abbrev pub work_by : Job → Work
-work_by j = record { names = j.query.plan; header = header_of j.subject; texts = j.texts }
+work_by j = record { names = j.query.plan; reading = j.query.reading; header = header_of j.query.reading j.subject; texts = j.texts }
 
 pub record IsJob (j : Job) : Type 0 where
   pub ask_for : AskFor j.subject.words j.query
@@ -43,7 +43,7 @@ pub record IsJob (j : Job) : Type 0 where
 
 -- the shape of its files
 abbrev pub IsShapeBy : Job → Shape → Type 0
-IsShapeBy j shape = IsShapeOf (bound_plan (header_of j.subject) j.query.plan) shape
+IsShapeBy j shape = IsShapeOf (bound_plan (header_of j.query.reading j.subject) j.query.plan) shape
 
 -- a file of it, which can be read
 pub record IsSent (j : Job) (shape : Shape) (f : StateFile) : Type 0 where
@@ -66,7 +66,7 @@ SentAreRead = (j : Job) (bytes : List ℕ) (i : Input) → IsJob j → AreSent j
 -- so its groups, if it has all bytes of all sources, each once, and no row is refused, are those of all rows of all sources
 abbrev pub SentGroupsAreAll : Type 0
 SentGroupsAreAll = (j : Job) (bytes : List ℕ) (i : Input) (cover : List Stretch) → IsJob j → AreSent j bytes → IsInput bytes i → IsWhole i cover → All IsCounted cover
-    → AreGroups (bound_plan (header_of j.subject) j.query.plan) (all_rows (work_by j)) (groups_in i)
+    → AreGroups (bound_plan (header_of j.query.reading j.subject) j.query.plan) (all_rows (work_by j)) (groups_in i)
 
 -- the table that they come to is that of one pass over all rows of all sources
 abbrev pub FinalizeAnswers : Type 0
@@ -115,8 +115,8 @@ pub record IsPart (j : Job) (p : Place) (read : List ℕ) (f : StateFile) : Type
   pub query : Query
   pub ask_for : AskFor j.subject.words query
   pub header : List (List ℕ)
-  pub header_is : records_of j.subject.header ≡ header ∷ []
-  pub is_read : IsReadOf query.plan header p read f
+  pub header_is : records_in query.reading j.subject.header ≡ header ∷ []
+  pub is_read : IsReadOf query.plan query.reading header p read f
   pub subject_is : f.preface.subject ≡ j.subject
 
 -- bytes are those of a file that can be read
@@ -128,11 +128,11 @@ pub record IsFileText (j : Job) (f : StateFile) (bytes : List ℕ) : Type 0 wher
 
 -- so what `partial` made of a whole source may be sent
 abbrev pub PartIsSent : Type 0
-PartIsSent = (j : Job) (source : ℕ) (f : StateFile) (bytes : List ℕ) → IsJob j → IsPart j (whole_place source (get_or j.texts source [])) (get_or j.texts source []) f → IsFileText j f bytes → AreSent j bytes
+PartIsSent = (j : Job) (source : ℕ) (f : StateFile) (bytes : List ℕ) → IsJob j → IsPart j (whole_place source (get_or j.texts source [])) (comma_text (work_by j) source) f → IsFileText j f bytes → AreSent j bytes
 
 -- and what it made of a tile of one, after the header
 abbrev pub TileIsSent : Type 0
-TileIsSent = (j : Job) (p : Place) (before : List ℕ) (f : StateFile) (bytes : List ℕ) → IsJob j → records_of before ≡ header_of j.subject ∷ [] → IsCut before → IsTile (work_by j) p
+TileIsSent = (j : Job) (p : Place) (before : List ℕ) (f : StateFile) (bytes : List ℕ) → IsJob j → records_as j.query.reading before ≡ header_of j.query.reading j.subject ∷ [] → IsCut before → IsTile (work_by j) p
     → IsPart j p (with_header p.from before (bytes_at (work_by j) p)) f → IsFileText j f bytes → AreSent j bytes
 
 -- whatever came about of the sources may be sent, if it can be read

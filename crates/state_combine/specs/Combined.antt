@@ -3,7 +3,6 @@ use Rattle.std.specs.Prelude.{◌≡◌, ◌≤◌, ◌^◌, ◌⊎◌, ℕ, Lis
 use Rattle.partial_agg.specs.Groups.{GroupsByKey}
 use Rattle.partial_agg.specs.Listed.{listed}
 use Rattle.partial_agg.specs.declared.groups.Group.{Group as MapGroup}
-use Rattle.state_blocks.specs.Blocks.{Group}
 use Rattle.state_body.specs.Body.{IsBody}
 use Rattle.state_cover.specs.Bytes.{had}
 use Rattle.state_cover.specs.Faults.{IsNoCover}
@@ -12,11 +11,10 @@ use Rattle.state_head.specs.Cover.{IsCover}
 use Rattle.state_head.specs.Head.{Preface, Subject, head_bytes}
 use Rattle.state_head.specs.Words.{Keys}
 use Rattle.state_head.specs.declared.cover.Stretch.{Stretch}
-use Rattle.state_save.specs.Saving.{AreTuplesOf, IsTold}
+use Rattle.state_save.specs.Saving.{AreTuplesOf, DoNotFit, IsTold}
 use Rattle.state_total.specs.Total.{IsCounted, IsCoverOf}
 use Rattle.state_whole.specs.Files.{StateFile, tuples_in}
 use Rattle.state_whole.specs.declared.adding.Shape.{Shape}
-use Rattle.state_writer.specs.Writing.{Fit}
 use Rattle.state_combine.specs.declared.combining.CombineFault.{CombineFault}
 use Rattle.state_combine.specs.declared.combining.CombineFault.TheVariants as fault
 
@@ -45,7 +43,7 @@ pub record IsTooLong (shape : Shape) (subject : Subject) (keys : Keys) (m : Grou
   pub join : IsCoverOf cover stretches
   pub groups : List MapGroup
   pub beside : AreBeside cover m groups
-  pub long : length (head_bytes (made_of subject keys cover)) ≤ 2 ^ 28 → (tuples : List Group) × AreTuplesOf shape groups tuples × (Fit shape.kinds.now (length (front_bytes (made_of subject keys cover))) tuples → ⊥)
+  pub long : DoNotFit shape (made_of subject keys cover) groups
 
 -- why they are not written
 abbrev pub IsNotCombined : List Stretch → CombineFault → Type 0

@@ -38,18 +38,18 @@ pub fn push_combined(
     out: &mut Vec<u8>,
     whole: Whole<'_>,
     range: KeyRange<'_>,
-    sum: Sum,
+    sum: Sum<'_>,
     shape: &Shape<'_>,
 ) -> Result<(), CombineFault>
     requires shape { IsShape shape.now }
     requires keys { All (λ group. IsKeyOf shape.now.columns group.key) (listed sum.map) }
     requires stretches { All (IsStretch whole.sources) sum.cover.items }
-    ensures file { OnOk result ((f : StateFile) × IsCombined shape.now (subject_of whole.entry) (keys_of range.entry) sum.map sum.cover.items f
+    ensures file { OnOk result ((f : StateFile) × IsCombined shape.now (subject_of whole.entry) (keys_of range.entry) sum.entry.map sum.entry.cover.items f
         × (out.new.items ≡ out.old.items ++ file_bytes shape.now.kinds.now f)) }
 
     // When each error comes.
-    ensures refused { IfErr result (IsNotCombined sum.cover.items) }
-    ensures long { result ≡ Err (fault.Write variant.Long) → IsTooLong shape.now (subject_of whole.entry) (keys_of range.entry) sum.map sum.cover.items }
+    ensures refused { IfErr result (IsNotCombined sum.entry.cover.items) }
+    ensures long { result ≡ Err (fault.Write variant.Long) → IsTooLong shape.now (subject_of whole.entry) (keys_of range.entry) sum.entry.map sum.entry.cover.items }
 {
     let (map, mut stretches) = sum.into_parts();
     let cover = match join_cover(alloc, &mut stretches, whole.sources) {

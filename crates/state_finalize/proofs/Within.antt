@@ -1,25 +1,16 @@
 -- The groups of a range have a text.
-use Rattle.std.proofs.Common.{◌≡◌, ◌∙◌, ℕ, List, [], ◌∷◌, All, ap, length, subst, sym}
+use Rattle.std.proofs.Common.{◌≡◌, ℕ, List, All, length, subst, sym}
 use Rattle.par_model.specs.Named.{NamedPlan}
 use Rattle.par_model.specs.Plan.{Plan}
 use Rattle.partial_agg.specs.Groups.{GroupsByKey}
 use Rattle.partial_agg.specs.Listed.{listed}
 use Rattle.partial_agg.specs.declared.groups.Group.{Group}
-use Rattle.result_text.specs.Printable.{ArePrintable, IsKeyOf, IsSmallSlot}
+use Rattle.result_text.specs.Printable.{IsSmallSlot}
 use Rattle.state_head.specs.Words.{Keys}
 use Rattle.state_finalize.specs.Finished.{HaveSmallSlots}
-use Rattle.state_finalize.proofs.Printing.{printable}
-use Rattle.state_range.specs.Ranges.{AreWithin, IsTextAfter, IsTextWithin}
-use Rattle.state_range.proofs.Kept.{each_within}
-
--- the columns of a plan, as they are counted
-pub by_columns : (plan : Plan) (range : Keys) (m within : GroupsByKey) (columns : List ℕ) → columns ≡ plan.groups → AreWithin (length columns) range m within → AreWithin (length plan.groups) range m within
-by_columns plan range m within columns is are = subst (λ (cs : List ℕ). AreWithin (length cs) range m within) is are
-
-pub printable_within : (plan : Plan) (range : Keys) (m within : GroupsByKey) (groups : List Group) → groups ≡ listed within → AreWithin (length plan.groups) range m within → All (λ (g : Group). IsKeyOf (length plan.groups) g.key) (listed m) → HaveSmallSlots groups
-    → ArePrintable plan groups
-printable_within plan range m within groups is are keys small =
-    printable plan within groups is (each_within (λ (g : Group). IsKeyOf (length plan.groups) g.key) (length plan.groups) range m within are keys) small
+use Rattle.state_order.proofs.Kept.{each_within}
+use Rattle.state_order.specs.Ranges.{AreWithin}
+use Rattle.state_range.specs.Ranges.{IsTextAfter, IsTextWithin}
 
 -- if the slots of all groups are small, so are those of the groups of a range
 pub not_small : (n : ℕ) (range : Keys) (m within : GroupsByKey) (groups : List Group) → groups ≡ listed within → AreWithin n range m within → (HaveSmallSlots groups → ⊥) → HaveSmallSlots (listed m) → ⊥

@@ -44,16 +44,16 @@ pub fn finish<R: Threads + Sync>(
     plan: &Plan,
     bound: &BoundPlan,
     sources: u32,
-    sum: Sum,
+    sum: Sum<'_>,
     threads: usize,
 ) -> Result<Finished, FinishFault>
     requires bound { IsBoundFrom plan.now.plan bound.now }
     requires keys { All (λ group. IsKeyOf (length bound.now.groups) group.key) (listed sum.map) }
     requires stretches { All (IsStretch sources) sum.cover.items }
-    ensures finished { IfOk result (IsFinished plan.now.plan bound.now sources sum.map sum.cover.items) }
+    ensures finished { IfOk result (IsFinished plan.now.plan bound.now sources sum.entry.map sum.entry.cover.items) }
 
     // When each error comes.
-    ensures refused { IfErr result (IsNotFinished sources sum.map sum.cover.items) }
+    ensures refused { IfErr result (IsNotFinished sources sum.entry.map sum.entry.cover.items) }
 {
     let (map, mut stretches) = sum.into_parts();
     let cover = match whole_cover(alloc, &mut stretches, sources) {

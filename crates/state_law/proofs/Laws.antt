@@ -5,7 +5,7 @@ use Rattle.std.specs.List.Sorted.{IsPermutation}
 use Rattle.std.proofs.lemmas.List.{length-map}
 use Rattle.std.proofs.lemmas.List.Elements.{All-append, All-cons, All-head, All-nil, All-tail}
 use Rattle.std.proofs.lemmas.List.Sorted.{length_permutation}
-use Rattle.csv_rows.specs.Records.{records_of}
+use Rattle.csv_rows.specs.Readings.{IsSeparator, exchanged, records_as}
 use Rattle.par_model.specs.Named.{bound_item}
 use Rattle.partial_agg.specs.Listed.{listed}
 use Rattle.partial_agg.specs.Rows.{IsAccepted}
@@ -14,7 +14,7 @@ use Rattle.result_text.proofs.Answering.{answers}
 use Rattle.row_blocks.specs.Blocks.{Table}
 use Rattle.row_blocks.proofs.Elements.{All-apart}
 use Rattle.row_windows.specs.Seams.{BeginsLine}
-use Rattle.row_windows.proofs.Seams.{records_add_up}
+use Rattle.row_windows.specs.Stretch.{between}
 use Rattle.state_blocks.specs.Blocks.{Group}
 use Rattle.state_head.specs.declared.cover.Place.{Place}
 use Rattle.state_head.specs.declared.cover.Rows.{Rows}
@@ -25,11 +25,11 @@ use Rattle.state_load.specs.Loading.{stretches_of, sum_of}
 use Rattle.state_total.specs.Total.{AreCounted, IsCounted, IsWholeCover}
 use Rattle.state_whole.specs.Files.{StateFile, tuples_in}
 use Rattle.state_law.specs.Law.{CombinedIsTrue, RowIsFirst, SourcesAreHeaded, SumIsAll, TextAnswers, TextsAgree, TileIsTrue, WholeIsTrue, with_header}
-use Rattle.state_law.specs.Sources.{IsTile, Work, all_rows, bytes_at, plan_in, rows_at, rows_in, text_of, whole_place, width_in, without_header}
+use Rattle.state_law.specs.Sources.{IsTile, Work, all_rows, bytes_at, comma_text, plan_in, rows_at, rows_in, text_of, whole_place, width_in, without_header}
 use Rattle.state_law.specs.Truth.{AreRowTuples, AreTold, AreTuplesBeside, IsReadOf, IsTrue, IsTrueOf}
 use Rattle.state_law.proofs.Groups.{counted_accepted, short_keys, sum_is_groups}
 use Rattle.state_law.proofs.Joins.{are_covered}
-use Rattle.state_law.proofs.Tiles.{whole_bytes}
+use Rattle.state_law.proofs.Tiles.{as_add_up, whole_bytes}
 use Rattle.state_law.proofs.Wholes.{first_is_first, whole_is_all, whole_is_headed}
 
 -- ---- one reading
@@ -43,7 +43,7 @@ module _ (w : Work) where
   no_tuples rows (Counted many) tuples are refused = absurd (refused tt)
   no_tuples rows (Refused why) tuples are refused = are
 
-  read_true : (p : Place) (bytes : List ℕ) (f : StateFile) (r : IsReadOf w.names w.header p bytes f) → IsTile w p → rows_at w p ≡ r.rows → IsTrueOf w f
+  read_true : (p : Place) (bytes : List ℕ) (f : StateFile) (r : IsReadOf w.names w.reading w.header p bytes f) → IsTile w p → rows_at w p ≡ r.rows → IsTrueOf w f
   read_true p bytes f r tile rows =
       let s : Stretch = record { place = p; rows = r.told } in
       let told : AreTold (plan_in w) (width_in w) (rows_at w p) r.told = subst (λ (l : Table). AreTold (plan_in w) (width_in w) l r.told) (sym rows) r.are_told in
@@ -57,8 +57,10 @@ module _ (w : Work) where
       }
 
   -- the records of a whole source
-  whole_records : (source : ℕ) → records_of (bytes_at w (whole_place source (text_of w source))) ≡ records_of (text_of w source)
-  whole_records source = ap records_of (whole_bytes (text_of w source))
+  whole_records : (source : ℕ) → records_as w.reading (bytes_at w (whole_place source (text_of w source))) ≡ records_as w.reading (comma_text w source)
+  whole_records source =
+      let size = length-map (text_of w source) (exchanged w.reading.separator) in
+      ap (λ (n : ℕ). records_as w.reading (between 0 n (comma_text w source))) (sym size) ∙ ap (records_as w.reading) (whole_bytes (comma_text w source))
 
 pub whole_is_true : WholeIsTrue
 whole_is_true w source f r =
@@ -73,7 +75,7 @@ whole_is_true w source f r =
       ends = inl refl;
       headed = λ start. whole_records w source ∙ r.records ∙ ap (λ (l : Table). w.header ∷ l) (sym rows);
     } in
-    read_true w p t f r tile rows
+    read_true w p (comma_text w source) f r tile rows
 
 pub tile_is_true : TileIsTrue
 tile_is_true w header p f one cut tile r = read_true w p (with_header p.from header (bytes_at w p)) f r tile (go p.from refl r.records)
@@ -82,12 +84,12 @@ tile_is_true w header p f one cut tile r = read_true w p (with_header p.from hea
     begins (inl start) from at = absurd (omega (arith, start, at))
     begins (inr is) from at = is
 
-    go : (from : ℕ) → p.from ≡ from → records_of (with_header from header (bytes_at w p)) ≡ w.header ∷ r.rows → rows_at w p ≡ r.rows
-    go zero at records = ap (λ (n : ℕ). without_header n (records_of (bytes_at w p))) at ∙ ap (λ (l : Table). drop 1 l) records
+    go : (from : ℕ) → p.from ≡ from → records_as w.reading (with_header from header (bytes_at w p)) ≡ w.header ∷ r.rows → rows_at w p ≡ r.rows
+    go zero at records = ap (λ (n : ℕ). without_header n (records_as w.reading (bytes_at w p))) at ∙ ap (λ (l : Table). drop 1 l) records
     go (suc from) at records =
-        let both = records_add_up header (bytes_at w p) (record { whole = cut; line = begins tile.begins from at }) in
-        ap (λ (n : ℕ). without_header n (records_of (bytes_at w p))) at
-        ∙ ap (λ (l : Table). drop 1 (l ++ records_of (bytes_at w p))) (sym one)
+        let both = as_add_up w.reading header (bytes_at w p) (record { whole = cut; line = begins tile.begins from at }) in
+        ap (λ (n : ℕ). without_header n (records_as w.reading (bytes_at w p))) at
+        ∙ ap (λ (l : Table). drop 1 (l ++ records_as w.reading (bytes_at w p))) (sym one)
         ∙ sym (ap (λ (l : Table). drop 1 l) both)
         ∙ ap (λ (l : Table). drop 1 l) records
 
@@ -128,36 +130,37 @@ combined_is_true told back w files f all few one =
     }
 
 -- the rows of a cover that has all bytes are accepted, and are all rows
-all_accepted_rows : (w : Work) (files : List StateFile) (cover : List Stretch) → All (IsTrueOf w) files → IsWholeCover (length w.texts) (stretches_of files) cover → All IsCounted cover → All (IsAccepted (plan_in w) (width_in w)) (all_rows w)
-all_accepted_rows w files cover all whole counted =
+all_accepted_rows : (w : Work) (files : List StateFile) (cover : List Stretch) → IsSeparator w.reading.separator → All (IsTrueOf w) files → IsWholeCover (length w.texts) (stretches_of files) cover → All IsCounted cover → All (IsAccepted (plan_in w) (width_in w)) (all_rows w)
+all_accepted_rows w files cover separates all whole counted =
     let covered = are_covered w (stretches_of files) cover whole.join (stretches_true w files all) in
-    let rows = whole_is_all w cover whole.whole.0 whole.whole.1 covered.each in
+    let rows = whole_is_all w separates cover whole.whole.0 whole.whole.1 covered.each in
     subst (All (IsAccepted (plan_in w) (width_in w))) rows (counted_accepted w cover covered.each counted)
 
 pub sum_is_all : RowsAreTold → LanesComeBack → SumIsAll
-sum_is_all told back w shape files cover of all few whole counted =
+sum_is_all told back w shape files cover separates of all few whole counted =
     let covered = are_covered w (stretches_of files) cover whole.join (stretches_true w files all) in
-    let rows = whole_is_all w cover whole.whole.0 whole.whole.1 covered.each in
+    let rows = whole_is_all w separates cover whole.whole.0 whole.whole.1 covered.each in
     let same = subst (IsPermutation (rows_in w (stretches_of files))) rows covered.rows in
-    sum_is_groups (plan_in w) shape of told back w (width_in w) files (all_rows w) (all_tuples w files all (covered.counted counted)) same (all_accepted_rows w files cover all whole counted) few
+    sum_is_groups (plan_in w) shape of told back w (width_in w) files (all_rows w) (all_tuples w files all (covered.counted counted)) same (all_accepted_rows w files cover separates all whole counted) few
 
 pub text_answers : SumIsAll → TextAnswers
-text_answers sum_of_all w files text all few items come =
+text_answers sum_of_all w files text separates all few items come =
     let sum = sum_of come.shape fin.empty files in
-    let groups = sum_of_all w come.shape files come.cover come.is_shape all few come.is_whole come.counted in
-    let accepted = all_accepted_rows w files come.cover all come.is_whole come.counted in
+    let groups = sum_of_all w come.shape files come.cover separates come.is_shape all few come.is_whole come.counted in
+    let accepted = all_accepted_rows w files come.cover separates all come.is_whole come.counted in
     answers w.names (plan_in w) (listed sum) text w.header (all_rows w) sum come.is (short_keys (plan_in w) (width_in w) (all_rows w) sum accepted groups) (omega (arith, length-map w.names.items (bound_item w.header), items)) refl groups refl
 
 pub sources_are_headed : SourcesAreHeaded
-sources_are_headed w files cover all whole k lt =
+sources_are_headed w files cover separates all whole k lt =
     let covered = are_covered w (stretches_of files) cover whole.join (stretches_true w files all) in
     let many = whole.whole.1 in
-    whole_is_headed w cover whole.whole.0 covered.each k (omega (arith, lt, many))
+    whole_is_headed w separates cover whole.whole.0 covered.each k (omega (arith, lt, many))
 
 pub texts_agree : TextAnswers → TextsAgree
-texts_agree answered w files others text other one two few items come came = answers_agree w.names (w.header ∷ all_rows w) text other (answered w files text one few items come) (answered w others other two few items came)
+texts_agree answered w files others text other separates one two few items come came =
+    answers_agree w.names (w.header ∷ all_rows w) text other (answered w files text separates one few items come) (answered w others other separates two few items came)
 
 pub row_is_first : RowIsFirst
-row_is_first w files found all come =
+row_is_first w files found separates all come =
     let covered = are_covered w (stretches_of files) come.cover come.is_whole.join (stretches_true w files all) in
-    first_is_first w come.cover found come.is_whole.whole.0 come.is_whole.whole.1 covered.each come.first
+    first_is_first w separates come.cover found come.is_whole.whole.0 come.is_whole.whole.1 covered.each come.first

@@ -1,17 +1,19 @@
 -- Tiles of a source that touch, as one.
-use Rattle.std.proofs.Common.{◌≡◌, ◌<◌, ◌≤◌, ◌+◌, ◌-◌, ◌++◌, ◌∙◌, ◌⊎◌, inl, inr, ℕ, zero, suc, List, [], ◌∷◌, ap, arith, drop, length, refl, subst, sym, take}
+use Rattle.std.proofs.Common.{◌≡◌, ◌<◌, ◌≤◌, ◌+◌, ◌-◌, ◌++◌, ◌∙◌, ◌⊎◌, inl, inr, ℕ, zero, suc, List, [], ◌∷◌, ap, arith, drop, length, map, refl, subst, sym, take}
 use Rattle.std.proofs.Math.Seq.{take-add}
-use Rattle.std.proofs.lemmas.List.{drop-drop, take_all}
+use Rattle.std.proofs.lemmas.List.{drop-drop, map-append, take_all}
 use Rattle.csv.specs.Reading.{strip_bom}
 use Rattle.csv_rows.specs.Cuts.{IsCut}
+use Rattle.csv_rows.specs.Readings.{as_read, records_as}
 use Rattle.csv_rows.specs.Records.{records_of}
+use Rattle.csv_rows.specs.declared.cleaning.Reading.{Reading}
 use Rattle.csv_rows.proofs.Machine.{all_from, records-all}
 use Rattle.row_blocks.specs.Blocks.{Table}
-use Rattle.row_windows.specs.Seams.{BeginsLine}
+use Rattle.row_windows.specs.Seams.{BeginsLine, IsSeam}
 use Rattle.row_windows.specs.Stretch.{between}
 use Rattle.row_windows.proofs.Seams.{records_add_up}
 use Rattle.state_head.specs.declared.cover.Place.{Place}
-use Rattle.state_law.specs.Sources.{IsTile, Work, bytes_at, rows_at, text_of, without_header}
+use Rattle.state_law.specs.Sources.{IsTile, Work, bytes_at, comma_text, rows_at, without_header}
 use Rattle.state_law.proofs.Cuts.{cut_append}
 
 -- ---- bytes between places of a text
@@ -32,10 +34,19 @@ begins_longer : (back more : List ℕ) → BeginsLine back → BeginsLine (back 
 begins_longer [] more b = absurd (omega (arith, b.some))
 begins_longer (c ∷ back) more b = record { some = omega arith; is = b.is }
 
+-- ---- records that are read in some way
+
 -- no bytes have no records
-no_records : records_of [] ≡ []
+none_of_none : records_of [] ≡ []
 unfolding strip_bom all_from
-no_records = records-all []
+none_of_none = records-all []
+
+no_records : (reading : Reading) → records_as reading [] ≡ []
+no_records reading = ap (map (map (as_read reading))) none_of_none
+
+-- those of a text that is cut at a seam are those of its two parts
+pub as_add_up : (reading : Reading) (front back : List ℕ) → IsSeam front back → records_as reading (front ++ back) ≡ records_as reading front ++ records_as reading back
+as_add_up reading front back seam = ap (map (map (as_read reading))) (records_add_up front back seam) ∙ map-append (map (as_read reading)) (records_of front) (records_of back)
 
 -- ---- without the header
 
@@ -67,8 +78,8 @@ module _ (w : Work) (p q : Place) (one : IsTile w p) (other : IsTile w q) (sourc
           let low : p.to ≡ 0 = at ∙ e in
           let order = one.order in
           let start : p.from ≡ 0 = omega (arith, low, order) in
-          let none : bytes_at w p ≡ [] = no_bytes p.from p.to (text_of w p.source) (omega (arith, low)) in
-          absurd (none_headed w.header (rows_at w p) (sym no_records ∙ sym (ap records_of none) ∙ one.headed start))
+          let none : bytes_at w p ≡ [] = no_bytes p.from p.to (comma_text w p.source) (omega (arith, low)) in
+          absurd (none_headed w.header (rows_at w p) (sym (no_records w.reading) ∙ sym (ap (records_as w.reading) none) ∙ one.headed start))
       go (suc from) e = omega arith
 
   begins : BeginsLine (bytes_at w q)
@@ -85,30 +96,30 @@ module _ (w : Work) (p q : Place) (one : IsTile w p) (other : IsTile w q) (sourc
       go (inr cut) = cut
       go (inl end) =
           let within = other.within in
-          let none : bytes_at w q ≡ [] = no_bytes q.from q.to (text_of w q.source) (omega (arith, within, end, size_is, at)) in
+          let none : bytes_at w q ≡ [] = no_bytes q.from q.to (comma_text w q.source) (omega (arith, within, end, size_is, at)) in
           let some = begins.some in
           absurd (omega (arith, some, ap length none))
 
   bytes_joined : bytes_at w (joined_place p q) ≡ bytes_at w p ++ bytes_at w q
   bytes_joined =
-      let t = text_of w p.source in
+      let t = comma_text w p.source in
       let order = one.order in
       let more = other.order in
       between_parts p.from p.to q.to t order (omega (arith, more, at))
       ∙ ap (λ (n : ℕ). between p.from p.to t ++ between n q.to t) at
-      ∙ ap (λ (k : ℕ). between p.from p.to t ++ between q.from q.to (text_of w k)) source_is
+      ∙ ap (λ (k : ℕ). between p.from p.to t ++ between q.from q.to (comma_text w k)) source_is
 
-  records_joined : records_of (bytes_at w (joined_place p q)) ≡ records_of (bytes_at w p) ++ records_of (bytes_at w q)
-  records_joined = ap records_of bytes_joined ∙ records_add_up (bytes_at w p) (bytes_at w q) (record { whole = ends; line = begins })
+  records_joined : records_as w.reading (bytes_at w (joined_place p q)) ≡ records_as w.reading (bytes_at w p) ++ records_as w.reading (bytes_at w q)
+  records_joined = ap (records_as w.reading) bytes_joined ∙ as_add_up w.reading (bytes_at w p) (bytes_at w q) (record { whole = ends; line = begins })
 
-  has_header : p.from ≡ 0 → 0 < length (records_of (bytes_at w p))
+  has_header : p.from ≡ 0 → 0 < length (records_as w.reading (bytes_at w p))
   has_header start = omega (arith, ap length (one.headed start))
 
   pub rows_joined : rows_at w (joined_place p q) ≡ rows_at w p ++ rows_at w q
   rows_joined =
       ap (without_header p.from) records_joined
-      ∙ headed_rows p.from (records_of (bytes_at w p)) (records_of (bytes_at w q)) has_header
-      ∙ ap (λ (l : Table). rows_at w p ++ l) (sym (later_rows q.from (records_of (bytes_at w q)) later))
+      ∙ headed_rows p.from (records_as w.reading (bytes_at w p)) (records_as w.reading (bytes_at w q)) has_header
+      ∙ ap (λ (l : Table). rows_at w p ++ l) (sym (later_rows q.from (records_as w.reading (bytes_at w q)) later))
 
   pub tile_joined : IsTile w (joined_place p q)
   tile_joined =
@@ -132,10 +143,10 @@ module _ (w : Work) (p q : Place) (one : IsTile w p) (other : IsTile w q) (sourc
       ended (inl end) = inl (end ∙ sym size_is)
       ended (inr cut) = inr (subst IsCut (sym bytes_joined) (cut_append (bytes_at w p) (bytes_at w q) ends begins cut))
 
-      headed : p.from ≡ 0 → records_of (bytes_at w (joined_place p q)) ≡ w.header ∷ rows_at w (joined_place p q)
+      headed : p.from ≡ 0 → records_as w.reading (bytes_at w (joined_place p q)) ≡ w.header ∷ rows_at w (joined_place p q)
       headed start =
-          records_joined ∙ ap (λ (l : Table). l ++ records_of (bytes_at w q)) (one.headed start)
-          ∙ ap (λ (l : Table). w.header ∷ (rows_at w p ++ l)) (sym (later_rows q.from (records_of (bytes_at w q)) later))
+          records_joined ∙ ap (λ (l : Table). l ++ records_as w.reading (bytes_at w q)) (one.headed start)
+          ∙ ap (λ (l : Table). w.header ∷ (rows_at w p ++ l)) (sym (later_rows q.from (records_as w.reading (bytes_at w q)) later))
           ∙ ap (λ (l : Table). w.header ∷ l) (sym rows_joined)
 
 -- ---- a whole source

@@ -1,6 +1,7 @@
 -- What a file of partial states says of the rows of its sources, and that it is so.
 use Rattle.std.specs.Prelude.{◌≡◌, ◌<◌, ◌∷◌, ℕ, List, [], All, length}
-use Rattle.csv_rows.specs.Records.{records_of}
+use Rattle.csv_rows.specs.Readings.{records_as}
+use Rattle.csv_rows.specs.declared.cleaning.Reading.{Reading}
 use Rattle.par_model.specs.Named.{NamedPlan, bound_plan}
 use Rattle.par_model.specs.Plan.{Plan}
 use Rattle.par_model.specs.Refuse.{refused_rows}
@@ -47,10 +48,10 @@ abbrev pub AreTuplesBeside : Plan → Table → Rows → List Group → Type 0
 AreTuplesBeside plan rows (Counted many) tuples = AreRowTuples plan rows tuples
 AreTuplesBeside plan rows (Refused why) tuples = tuples ≡ []
 
--- a file is what some bytes come to, of which the first record is the header, as those at a place of a source
-pub record IsReadOf (names : NamedPlan) (header : List (List ℕ)) (p : Place) (bytes : List ℕ) (f : StateFile) : Type 0 where
+-- a file is what some text with commas comes to, of which the first record is the header, as that at a place of a source
+pub record IsReadOf (names : NamedPlan) (reading : Reading) (header : List (List ℕ)) (p : Place) (bytes : List ℕ) (f : StateFile) : Type 0 where
   pub rows : Table
-  pub records : records_of bytes ≡ header ∷ rows
+  pub records : records_as reading bytes ≡ header ∷ rows
   pub told : Rows
   pub cover : f.preface.cover ≡ record { place = p; rows = told } ∷ []
   pub are_told : AreTold (bound_plan header names) (length header) rows told
@@ -72,5 +73,5 @@ pub record IsTrueOf (w : Work) (f : StateFile) : Type 0 where
 -- this row of this source is the first refused one of all: no row of a source before is refused
 pub record IsFirstOfAll (w : Work) (found : FirstRefused) : Type 0 where
   pub source : found.source < length w.texts
-  pub before : (k : ℕ) → k < found.source → refused_rows (plan_in w) (width_in w) (rows_of (text_of w k)) ≡ []
-  pub first : IsFirstRow (plan_in w) (width_in w) (rows_of (text_of w found.source)) found.why
+  pub before : (k : ℕ) → k < found.source → refused_rows (plan_in w) (width_in w) (rows_of w.reading (text_of w k)) ≡ []
+  pub first : IsFirstRow (plan_in w) (width_in w) (rows_of w.reading (text_of w found.source)) found.why

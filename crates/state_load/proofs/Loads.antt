@@ -91,12 +91,14 @@ pub record IsLoadedTo (shape : Shape) (subject : Subject) (keys : Keys) (bytes r
   pub found : (m : GroupsByKey) (cover : List Stretch) → AreSummed m cover old → AreFound shape subject keys bytes rest m cover sum at
   pub taken : (m : GroupsByKey) (cover : List Stretch) (all : List StateFile) → AreSummed m cover old → AreParts shape subject keys all → bytes ≡ files_bytes shape all → AreTaken shape subject keys all rest m cover sum at
   pub room : at + length rest ≤ length bytes
+  pub kept : sum.kept ≡ old.kept
 
 pub none_loaded : (shape : Shape) (subject : Subject) (keys : Keys) (bytes : List ℕ) (sum : Sum) → IsLoadedTo shape subject keys bytes bytes sum sum 0
 none_loaded shape subject keys bytes sum = record {
   found = λ m cover is. record { files = []; are = All-nil (IsPart shape subject keys); is = refl; many = refl; sum_is = none_summed m cover sum is };
   taken = λ m cover all is parts e. record { front = []; tail = all; is = refl; each = parts; left = e; many = refl; sum_is = none_summed m cover sum is };
   room = omega arith;
+  kept = refl;
 }
 
 -- what is left of the files begins with one, if there are bytes left
@@ -120,14 +122,14 @@ no_bytes : (bs : List ℕ) → length bs ≡ 0 → bs ≡ []
 no_bytes [] e = refl
 no_bytes (b ∷ bs) e = absurd (omega (arith, e))
 
-pub one_loaded : (shape : Shape) (subject : Subject) (keys : Keys) (bytes rest after : List ℕ) (old sum next : Sum) (at : ℕ) → IsLoadedTo shape subject keys bytes rest old sum at → 0 < length rest → length after < length rest
+pub one_loaded : (shape : Shape) (subject : Subject) (keys : Keys) (bytes rest after : List ℕ) (old sum next : Sum) (at : ℕ) → IsLoadedTo shape subject keys bytes rest old sum at → 0 < length rest → length after < length rest → next.kept ≡ sum.kept
     → ((m : GroupsByKey) (cover : List Stretch) → AreSummed m cover sum → (f : StateFile) × IsPart shape subject keys f × (rest ≡ file_bytes shape.kinds.now f ++ after) × AreSummed (sum_with shape m (tuples_in f)) (cover ++ f.preface.cover) next)
     → ((m : GroupsByKey) (cover : List Stretch) (f : StateFile) (r : List ℕ) → AreSummed m cover sum → IsPart shape subject keys f → rest ≡ file_bytes shape.kinds.now f ++ r
     → (after ≡ r) × AreSummed (sum_with shape m (tuples_in f)) (cover ++ f.preface.cover) next)
     → IsLoadedTo shape subject keys bytes after old next (at + 1)
-one_loaded shape subject keys bytes rest after old sum next at is some shorter added written =
+one_loaded shape subject keys bytes rest after old sum next at is some shorter kept added written =
     let room = is.room in
-    record { found = find; taken = take_one; room = omega (arith, room, shorter) }
+    record { found = find; taken = take_one; room = omega (arith, room, shorter); kept = kept ∙ is.kept }
   where
     find : (m : GroupsByKey) (cover : List Stretch) → AreSummed m cover old → AreFound shape subject keys bytes after m cover next (at + 1)
     find m cover summed =

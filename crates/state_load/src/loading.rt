@@ -38,11 +38,12 @@ pub struct LoadFault {
 }
 
 /// Adds the files that some bytes are, one after another, to a sum, and says how many they are. Each has to say
-/// this plan, header, number of sources and range. Time is that of the bytes and a look-up for each group; memory is that of the groups, and a file's foot and cover.
+/// this plan, header, number of sources and range. Time is that of the bytes and a look-up for each group; memory is
+/// that of the groups that the sum keeps, of a file's foot, and of the covers.
 /// After an error a sum can only be dropped.
 pub fn add_files(
     alloc: Global,
-    sum: &mut Sum,
+    sum: &mut Sum<'_>,
     bytes: &[u8],
     whole: Whole<'_>,
     range: KeyRange<'_>,
@@ -52,6 +53,7 @@ pub fn add_files(
     ensures added { (m : GroupsByKey) (cover : List Stretch) → AreSummed m cover sum.old → IfOk result (AreAdded shape.now (subject_of whole.entry) (keys_of range.entry) bytes.now m cover sum.new) }
     ensures written { (m : GroupsByKey) (cover : List Stretch) (files : List StateFile) → AreSummed m cover sum.old → AreParts shape.now (subject_of whole.entry) (keys_of range.entry) files → bytes.now ≡ files_bytes shape.now files
         → IfOk result (λ n. (n ≡ length files) × AreSummed (sum_of shape.now m files) (cover ++ stretches_of files) sum.new) }
+    ensures kept { sum.new.kept ≡ sum.old.kept }
 
     // When each error comes.
     ensures refused { (m : GroupsByKey) (cover : List Stretch) → AreSummed m cover sum.old → IfErr result (AreNoParts shape.now (subject_of whole.entry) (keys_of range.entry) m bytes.now) }
@@ -75,7 +77,7 @@ pub fn add_files(
 /// Adds the file that some bytes begin with. The bytes after it.
 fn add_next<'a>(
     alloc: Global,
-    sum: &mut Sum,
+    sum: &mut Sum<'_>,
     bytes: &'a [u8],
     whole: Whole<'_>,
     range: KeyRange<'_>,
@@ -88,6 +90,7 @@ fn add_next<'a>(
     ensures written { (m : GroupsByKey) (cover : List Stretch) (f : StateFile) (rest : List ℕ) → AreSummed m cover sum.old → IsPart shape.now (subject_of whole.entry) (keys_of range.entry) f → bytes.now ≡ file_bytes shape.now.kinds.now f ++ rest
         → IfOk result (λ left. (left.now ≡ rest) × AreSummed (sum_with shape.now m (tuples_in f)) (cover ++ f.preface.cover) sum.new) }
     ensures shorter { IfOk result (λ rest. length rest.now < length bytes.now) }
+    ensures kept { sum.new.kept ≡ sum.old.kept }
     ensures refused { (m : GroupsByKey) (cover : List Stretch) → AreSummed m cover sum.old → IfErr result (IsNoPart shape.now (subject_of whole.entry) (keys_of range.entry) m bytes.now) }
 {
     let front = read_alike(alloc, bytes, whole, range)?;

@@ -1,1 +1,3 @@
+pub mod Kept
 mod Orders
+mod Within

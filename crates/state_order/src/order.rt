@@ -3,13 +3,10 @@
 //! Only the last key is kept, where it lies: as the order is total, a key that comes after it comes after all before.
 
 ghost use Rattle.std.specs.Prelude.{◌≡◌, ◌++◌, ◌∷◌, ◌↔◌, [], ℕ, List, IfErr, IsTrue, MatchOption, OnErr, OnOk};
-ghost use Rattle.std.specs.Ordering.{is_lt};
-ghost use Rattle.par_model.specs.Table.{columns_cmp};
-ghost use Rattle.result_text.specs.KeyColumns.{columns_in};
 ghost use Rattle.state_head.specs.Words.{Keys, keys_of};
-ghost use Rattle.state_order.specs.Order.{ComesBefore, HasKeys, IsBelow, IsFrom, IsIn, IsNoNext};
+ghost use Rattle.state_order.specs.Order.{ComesBefore, HasKeys, IsIn, IsNoNext};
 
-use result_text::compare_columns;
+use crate::ranges::{is_before, is_within};
 use state_head::KeyRange;
 
 /// Why a key does not come next: its line does not come after that of the key before, or it is not within the range.
@@ -72,32 +69,5 @@ impl<'a> KeyOrder<'a> {
 fn is_in(range: KeyRange<'_>, key: &[u8], columns: u32) -> bool
     ensures { IsTrue result ↔ IsIn columns (keys_of range.entry) key.now }
 {
-    is_from(range.low, key, columns) && is_below(range.high, key, columns)
-}
-
-/// Whether a key lies from the low end of a range on, if it has one.
-fn is_from(low: &[u8], key: &[u8], columns: u32) -> bool
-    ensures { IsTrue result ↔ IsFrom columns low.now key.now }
-{
-    if low.is_empty() {
-        return true;
-    }
-    !is_before(key, low, columns)
-}
-
-/// Whether a key lies below the high end of a range, if it has one.
-fn is_below(high: &[u8], key: &[u8], columns: u32) -> bool
-    ensures { IsTrue result ↔ IsBelow columns high.now key.now }
-{
-    if high.is_empty() {
-        return true;
-    }
-    is_before(key, high, columns)
-}
-
-/// Whether the line of a key comes before that of another.
-fn is_before(a: &[u8], b: &[u8], columns: u32) -> bool
-    ensures { result ≡ is_lt (columns_cmp (columns_in columns a.now) (columns_in columns b.now)) }
-{
-    compare_columns(a, b, columns).is_lt()
+    is_within(range, key, columns)
 }

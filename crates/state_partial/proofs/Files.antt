@@ -5,7 +5,9 @@ use Rattle.std.specs.FinMap as map
 use Rattle.std.specs.Prelude.{map as map_list}
 use Rattle.std.proofs.lemmas.List.Elements.{All-head}
 use Rattle.std.proofs.lemmas.List.Sorted.{length_permutation}
+use Rattle.csv_rows.specs.Readings.{records_in}
 use Rattle.csv_rows.specs.Records.{record_at, records_of}
+use Rattle.csv_rows.proofs.Cleaned.{as-length}
 use Rattle.par_model.specs.Named.{bound_plan, missing_name}
 use Rattle.par_model.specs.Plan.{Plan}
 use Rattle.par_model.specs.declared.state.AggState.{AggState}
@@ -28,18 +30,20 @@ use Rattle.state_head.specs.declared.cover.Stretch.{Stretch}
 use Rattle.state_order.specs.Order.{IsIn}
 use Rattle.state_plan.specs.FilePlans.{AskFor, IsPlanOf, header_of}
 use Rattle.state_plan.specs.declared.file_plan.FilePlan.{FilePlan}
-use Rattle.state_save.specs.Saving.{AreTuplesOf, IsFileOf, IsTold, SavedIsRead}
-use Rattle.state_whole.specs.Adding.{IsShapeOf}
+use Rattle.state_save.specs.Saving.{AreTuplesOf, DoNotFit, IsFileOf, IsTold, LongIsKnown, SavedIsRead}
+use Rattle.state_whole.specs.Adding.{IsShape, IsShapeOf}
 use Rattle.state_whole.specs.Files.{IsStateFile, StateFile, file_bytes, tuples_in}
 use Rattle.state_whole.specs.Sums.{has_refused, is_refused}
 use Rattle.state_whole.specs.declared.adding.Shape.{Shape}
 use Rattle.state_partial.specs.Parts.{IsFileAt, IsPartText, SaysNothing}
-use Rattle.state_partial.specs.Places.{AreRead, IsCoverOf}
+use Rattle.state_partial.specs.Places.{AreRead, IsCoverOf, text_by}
 use Rattle.state_partial.specs.Reads.{AreRowsOf, IsPartRead}
 use Rattle.state_law.specs.Told.{GroupsAreTold}
 use Rattle.state_law.specs.Truth.{IsReadOf}
+use Rattle.state_partial.specs.TooLong.{HasNoRoom, IsLongPart}
 use Rattle.state_partial.specs.Words.{Asked, asked_in}
 use Rattle.state_partial.specs.declared.reading.Part.{Part}
+use Rattle.state_partial.proofs.Few.{few_groups}
 use Rattle.state_partial.proofs.Found.{one_record}
 
 -- what holds if a test succeeds
@@ -73,8 +77,8 @@ module _ (query : Query) (header : List (List ℕ)) (count : ℕ) (count_is : co
 bound_is : (query : Query) (from : Option (List ℕ)) (p : Part) (read : IsPartRead query from p) (s : Subject) (plan : FilePlan) → s.header ≡ p.header.items → IsPlanOf s plan → plan.plan ≡ query
     → plan.bound ≡ bound_plan read.header query.plan
 bound_is query from p read s plan header is same =
-    let fields : header_of s ≡ read.header = ap (λ (l : List ℕ). record_at (records_of l) 0) header ∙ ap (λ (rs : List (List (List ℕ))). record_at rs 0) read.one in
-    is.bound ∙ (ap (λ (h : List (List ℕ)). bound_plan h plan.plan.plan) fields ∙ ap (λ (q : Query). bound_plan read.header q.plan) same)
+    let fields : header_of query.reading s ≡ read.header = ap (λ (l : List ℕ). record_at (records_in query.reading l) 0) header ∙ ap (λ (rs : List (List (List ℕ))). record_at rs 0) read.one in
+    is.bound ∙ (ap (λ (q : Query). bound_plan (header_of q.reading s) q.plan) same ∙ ap (λ (h : List (List ℕ)). bound_plan h query.plan) fields)
 
 pub keys_read : (query : Query) (from : Option (List ℕ)) (p : Part) (read : IsPartRead query from p) (s : Subject) (plan : FilePlan) (shape : Shape) → s.header ≡ p.header.items → IsPlanOf s plan → plan.plan ≡ query
     → IsShapeOf plan.bound shape → All (λ (g : MapGroup). IsKeyOf shape.columns g.key) (listed p.map)
@@ -95,7 +99,7 @@ none_grouped plan rows m none are = none_first plan (listed m) (All-listed plan 
 
 module _ (query : Query) (header : List (List ℕ)) (read : List ℕ) (shape : Shape) (of_shape : IsShapeOf (bound_plan header query.plan) shape) (p : Place) (f : StateFile) where
   read_by : (rows : Rows) (m : GroupsByKey) → AreRowsOf query header (Some read) rows m → f.preface.cover ≡ record { place = p; rows = rows } ∷ [] → AreTuplesOf shape (listed m) (tuples_in f)
-      → IsReadOf query.plan header p read f
+      → IsReadOf query.plan query.reading header p read f
   read_by (Counted many) m are cover tuples = record {
     rows = are.rows;
     records = are.all;
@@ -115,9 +119,9 @@ module _ (query : Query) (header : List (List ℕ)) (read : List ℕ) (shape : S
 
   -- of no bytes there are no rows
   nothing_by : (rows : Rows) (m : GroupsByKey) → AreRowsOf query header (Some read) rows m → length (records_of read) ≤ 1 → p.from ≡ p.to → f.preface.cover ≡ [] → AreTuplesOf shape (listed m) (tuples_in f)
-      → SaysNothing header p read f
+      → SaysNothing query.reading header p read f
   nothing_by (Counted many) m are few none cover tuples =
-      let rows : are.rows ≡ [] = nil_of_length are.rows (omega (arith, ap length are.all, few)) in
+      let rows : are.rows ≡ [] = nil_of_length are.rows (omega (arith, ap length are.all, as-length query.reading read, few)) in
       record {
         none = none;
         records = are.all ∙ ap (λ (rs : Table). header ∷ rs) rows;
@@ -125,7 +129,7 @@ module _ (query : Query) (header : List (List ℕ)) (read : List ℕ) (shape : S
         tuples = no_tuples shape (listed m) (tuples_in f) (none_grouped (bound_plan header query.plan) are.rows m rows are.are) tuples;
       }
   nothing_by (Refused why) m are few none cover tuples =
-      let rows : are.first.rows ≡ [] = nil_of_length are.first.rows (omega (arith, ap length are.first.are, few)) in
+      let rows : are.first.rows ≡ [] = nil_of_length are.first.rows (omega (arith, ap length are.first.are, as-length query.reading read, few)) in
       record {
         none = none;
         records = are.first.are ∙ ap (λ (rs : Table). header ∷ rs) rows;
@@ -134,7 +138,7 @@ module _ (query : Query) (header : List (List ℕ)) (read : List ℕ) (shape : S
       }
 
   file_at : (rows : Rows) (m : GroupsByKey) → AreRowsOf query header (Some read) rows m → IsCoverOf p rows f.preface.cover → (p.from ≡ p.to → 0 < p.size → length (records_of read) ≤ 1) → AreTuplesOf shape (listed m) (tuples_in f)
-      → IsFileAt query.plan header p read f
+      → IsFileAt query.plan query.reading header p read f
   file_at rows m are (inl is) few tuples = inl (is.0, read_by rows m are is.1 tuples)
   file_at rows m are (inr is) few tuples = inr (nothing_by rows m are (few is.0 is.1) is.0 is.2 tuples)
 
@@ -186,11 +190,11 @@ front_is pre words header some few cover keys short = record {
   short = short;
 }
 
-whole_is : (query : Query) (s : Subject) (plan : FilePlan) (header : List (List ℕ)) → header_of s ≡ header → IsPlanOf s plan → plan.plan ≡ query → missing_name header query.plan ≡ None
-whole_is query s plan header fields is same = subst (λ (q : Query). missing_name header q.plan ≡ None) same (subst (λ (h : List (List ℕ)). missing_name h plan.plan.plan ≡ None) fields is.whole)
+whole_is : (query : Query) (s : Subject) (plan : FilePlan) (header : List (List ℕ)) → header_of query.reading s ≡ header → IsPlanOf s plan → plan.plan ≡ query → missing_name header query.plan ≡ None
+whole_is query s plan header fields is same = subst (λ (h : List (List ℕ)). missing_name h query.plan ≡ None) fields (subst (λ (q : Query). missing_name (header_of q.reading s) q.plan ≡ None) same is.whole)
 
 pub part_text : (words : List (List ℕ)) (asked : Asked) (query : Query) (bytes read : List ℕ) (p : Part) (part : IsPartRead query (Some read) p) (place : Place) (pre : Preface) (plan : FilePlan) (shape : Shape) (groups : List MapGroup)
-    (f : StateFile) (text : List ℕ) → asked_in words ≡ Some asked → AskFor asked.words query → AreRead asked.part.source asked.extent bytes place read → pre.subject.words ≡ asked.words → pre.subject.header ≡ p.header.items
+    (f : StateFile) (text : List ℕ) → asked_in words ≡ Some asked → AskFor asked.words query → AreRead asked.part.source asked.extent (text_by query bytes) place read → pre.subject.words ≡ asked.words → pre.subject.header ≡ p.header.items
     → pre.subject.sources ≡ asked.part.sources → IsCoverOf place p.rows pre.cover → pre.keys ≡ record { low = []; high = [] } → IsPlanOf pre.subject plan → plan.plan ≡ query → IsShapeOf plan.bound shape → groups ≡ listed p.map
     → GroupsAreTold → SavedIsRead → AreWords pre.subject.words → length pre.subject.header ≤ 2 ^ 28 → asked.part.source < asked.part.sources → asked.part.sources < 2 ^ 32 → IsCover asked.part.sources pre.cover
     → length (head_bytes pre) ≤ 2 ^ 28 → IsFileOf shape pre groups f → text ≡ file_bytes shape.kinds.now f → IsPartText words bytes text
@@ -199,7 +203,7 @@ part_text words asked query bytes read p part place pre plan shape groups f text
     let shape_is : IsShapeOf (bound_plan part.header query.plan) shape = subst (λ (b : Plan). IsShapeOf b shape) bound of_shape in
     let its : IsCoverOf place p.rows f.preface.cover = subst (λ (pre : Preface). IsCoverOf place p.rows pre.cover) (sym is_file.preface_is) cover in
     let front = front_is pre fit_words fit_header (omega (arith, sources, below)) (omega (arith, sources, few)) (subst (λ (n : ℕ). IsCover n pre.cover) (sym sources) is_cover) keys short in
-    let fields : header_of pre.subject ≡ part.header = ap (λ (l : List ℕ). record_at (records_of l) 0) header ∙ ap (λ (rs : Table). record_at rs 0) part.one in
+    let fields : header_of query.reading pre.subject ≡ part.header = ap (λ (l : List ℕ). record_at (records_in query.reading l) 0) header ∙ ap (λ (rs : Table). record_at rs 0) part.one in
     record {
       asked = asked;
       is_asked = is_asked;
@@ -212,10 +216,10 @@ part_text words asked query bytes read p part place pre plan shape groups f text
         place = place;
         read = read;
         are_read = are_read;
-        is_file = file_at query part.header read shape shape_is place f p.rows p.map part.are its (λ none some. one_record asked.part.source asked.extent bytes place read are_read none some)
+        is_file = file_at query part.header read shape shape_is place f p.rows p.map part.are its (λ none some. one_record asked.part.source asked.extent (text_by query bytes) place read are_read none some)
             (subst (λ (gs : List MapGroup). AreTuplesOf shape gs (tuples_in f)) groups_are is_file.are);
         words_are = ap (λ (pre : Preface). pre.subject.words) is_file.preface_is ∙ words_are;
-        header_is = ap (λ (pre : Preface). records_of pre.subject.header) is_file.preface_is ∙ (ap records_of header ∙ part.one);
+        header_is = ap (λ (pre : Preface). records_in query.reading pre.subject.header) is_file.preface_is ∙ (ap (records_in query.reading) header ∙ part.one);
         sources_are = ap (λ (pre : Preface). pre.subject.sources) is_file.preface_is ∙ sources;
         keys_are = ap (λ (pre : Preface). pre.keys) is_file.preface_is ∙ keys;
       };
@@ -223,4 +227,63 @@ part_text words asked query bytes read p part place pre plan shape groups f text
       is_shape = shape_is;
       is_file = is_read query part.header (Some read) shape pre place p.rows p.map groups f law saved shape_is part.are groups_are cover keys front is_file;
       is_text = is_text;
+    }
+
+-- ---- that it is too long
+
+few_listed : (query : Query) (header : List (List ℕ)) (from : Option (List ℕ)) (rows : Rows) (m : GroupsByKey) → AreRowsOf query header from rows m → length (listed m) ≤ 2 ^ 50
+few_listed query header from (Counted many) m are =
+    let few = few_groups (bound_plan header query.plan) are.rows m are.are in
+    let most = are.few in
+    omega (arith, few, most)
+few_listed query header from (Refused why) m are = omega (arith, ap length (none_listed m are.none))
+
+-- a head has no room for it
+pub no_room : (asked : Asked) (query : Query) (bytes read : List ℕ) (p : Part) (part : IsPartRead query (Some read) p) (place : Place) → AskFor asked.words query → AreRead asked.part.source asked.extent (text_by query bytes) place read
+    → HasNoRoom asked.words p.header.items p.rows → IsLongPart asked bytes
+no_room asked query bytes read p part place ask are_read none = record {
+  query = query;
+  ask_for = ask;
+  place = place;
+  read = read;
+  are_read = are_read;
+  text = p.header.items;
+  header = part.header;
+  header_is = part.one;
+  rows = p.rows;
+  groups = p.map;
+  are = part.are;
+  long = inl none;
+}
+
+-- its head or its foot is too long
+pub long_part : (asked : Asked) (query : Query) (bytes read : List ℕ) (p : Part) (part : IsPartRead query (Some read) p) (place : Place) (pre : Preface) (plan : FilePlan) (shape : Shape) → AskFor asked.words query
+    → AreRead asked.part.source asked.extent (text_by query bytes) place read → pre.subject.words ≡ asked.words → pre.subject.header ≡ p.header.items → pre.subject.sources ≡ asked.part.sources → IsCoverOf place p.rows pre.cover
+    → pre.keys ≡ record { low = []; high = [] } → IsPlanOf pre.subject plan → plan.plan ≡ query → IsShapeOf plan.bound shape → IsShape shape → GroupsAreTold → LongIsKnown → DoNotFit shape pre (listed p.map) → IsLongPart asked bytes
+long_part asked query bytes read p part place pre plan shape ask are_read words_are header sources cover keys is same of_shape is_shape law known none =
+    let shape_is : IsShapeOf (bound_plan part.header query.plan) shape = subst (λ (b : Plan). IsShapeOf b shape) (bound_is query (Some read) p part pre.subject plan header is same) of_shape in
+    let told = told_by query part.header shape shape_is law p.rows (Some read) p.map part.are in
+    record {
+      query = query;
+      ask_for = ask;
+      place = place;
+      read = read;
+      are_read = are_read;
+      text = p.header.items;
+      header = part.header;
+      header_is = part.one;
+      rows = p.rows;
+      groups = p.map;
+      are = part.are;
+      long = inr (record {
+        preface = pre;
+        words_are = words_are;
+        header_is = header;
+        sources_are = sources;
+        cover_is = cover;
+        keys_are = keys;
+        shape = shape;
+        is_shape = shape_is;
+        long = known shape pre (listed p.map) is_shape told (few_listed query part.header (Some read) p.rows p.map part.are) none;
+      });
     }

@@ -1,12 +1,11 @@
 -- Which bytes of a source were read, and where they lie.
-use Rattle.std.proofs.Common.{inl, inr, ◌≡◌, ◌<◌, ◌≤◌, ◌+◌, ◌-◌, ◌++◌, ◌∙◌, ℕ, zero, suc, List, [], ◌∷◌, Option, None, Some, IfSome, ap, append-nil, arith, length, length-append, refl, sym}
+use Rattle.std.proofs.Common.{inl, inr, ◌≡◌, ◌<◌, ◌≤◌, ◌+◌, ◌-◌, ◌++◌, ◌∙◌, ℕ, zero, suc, List, [], ◌∷◌, Option, None, Some, IfSome, ap, append-nil, arith, length, length-append, refl, subst, sym}
 use Rattle.csv.specs.Reading.{strip_bom}
 use Rattle.csv_rows.specs.Records.{records_of}
 use Rattle.csv_rows.proofs.Machine.{all_from, records-all}
 use Rattle.state_head.specs.declared.cover.Place.{Place}
 use Rattle.state_partial.specs.NoPart.{HasNoBegin, OfTile, part_of_tile}
-use Rattle.state_partial.specs.Parts.{IsPartText}
-use Rattle.state_partial.specs.Places.{AreLeft, AreRead, HasNoPlace, IsLeft, IsLonger, IsPlaceOf, IsTileAt, tile_from, tile_place}
+use Rattle.state_partial.specs.Places.{AreLeft, AreRead, HasNoPlace, IsLeft, IsLonger, IsPlaceOf, IsTileAt, text_by, text_left, tile_from, tile_place}
 use Rattle.state_partial.specs.Reads.{IsPartRead}
 use Rattle.state_partial.specs.declared.reading.Part.{Part}
 use Rattle.state_partial.specs.declared.words.Extent.{Extent}
@@ -89,12 +88,18 @@ left_some : (e : Extent) (bytes : List ℕ) (b : Begin) → IsLeft e bytes b Non
 left_some extent.Whole bytes b is = cc is
 left_some (extent.Tile span) bytes b begins = let bad = begins.left_is in cc bad
 
--- the file of what was read is that of a part
-pub part_made : (old mid : Option (List ℕ)) (e : Extent) (b : Begin) (query : Query) (part : Part) (source : ℕ) (p : Place) (words : List (List ℕ)) (text : List ℕ) → IfSome old (λ bytes. IsLeft e bytes b mid) → IsPartRead query mid part
-    → IsPlaceOf source e b part.size p → ((bytes read : List ℕ) → AreRead source e bytes p read → IsPartRead query (Some read) part → IsPartText words bytes text) → IfSome old (λ bytes. IsPartText words bytes text)
-part_made None mid e b query part source p words text left read at made = tt
-part_made (Some bytes) None e b query part source p words text left read at made = absurd (left_some e bytes b left)
-part_made (Some bytes) (Some given) e b query part source p words text left read at made = made bytes given (place_read source e bytes b (Some given) given part.size p left refl read.size at) read
+-- what is so of the bytes that were read of a source is so of those that it brings
+some_made : (P : List ℕ → Type 0) (mid : Option (List ℕ)) (e : Extent) (b : Begin) (query : Query) (part : Part) (source : ℕ) (p : Place) (bytes : List ℕ) → IsLeft e (text_by query bytes) b mid → IsPartRead query mid part
+    → IsPlaceOf source e b part.size p → ((bytes read : List ℕ) → AreRead source e (text_by query bytes) p read → IsPartRead query (Some read) part → P bytes) → P bytes
+some_made P None e b query part source p bytes left read at made = absurd (left_some e (text_by query bytes) b left)
+some_made P (Some given) e b query part source p bytes left read at made = made bytes given (place_read source e (text_by query bytes) b (Some given) given part.size p left refl read.size at) read
+
+pub part_made : (P : List ℕ → Type 0) (old mid : Option (List ℕ)) (e : Extent) (b : Begin) (query : Query) (part : Part) (source : ℕ) (p : Place) → IfSome old (λ text. IsLeft e text b mid) → IsPartRead query mid part
+    → IsPlaceOf source e b part.size p → ((bytes read : List ℕ) → AreRead source e (text_by query bytes) p read → IsPartRead query (Some read) part → P bytes)
+    → (left : Option (List ℕ)) → old ≡ text_left query left → IfSome left P
+part_made P old mid e b query part source p begun read at made None is = tt
+part_made P old mid e b query part source p begun read at made (Some bytes) is =
+    some_made P mid e b query part source p bytes (subst (λ (o : Option (List ℕ)). IfSome o (λ text. IsLeft e text b mid)) is begun) read at made
 
 -- ---- a source that has more than its size
 

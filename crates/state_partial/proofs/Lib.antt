@@ -1,4 +1,5 @@
 mod Commands
+mod Few
 mod Files
 mod Found
 mod Lines
@@ -6,3 +7,4 @@ mod Made
 mod Numbers
 mod Statuses
 mod Taken
+mod TextsAfter

@@ -1,11 +1,8 @@
 -- What was read of a source, whole: its size, and its rows.
 use Rattle.std.proofs.Common.{inl, inr, ◌≡◌, ◌+◌, ◌++◌, ◌∷◌, ◌∙◌, ℕ, List, [], All, Option, None, Some, IfSome, ap, append_assoc, arith, length, length-append, refl, subst, sym}
 use Rattle.std.specs.Io.KnownBytes.{Consumes, IsAtEnd}
-use Rattle.csv_rows.specs.Readings.{IsSeparator, plain, records_as, records_in}
-use Rattle.csv_rows.specs.Records.{record_at, records_of}
-use Rattle.csv_rows.specs.declared.cleaning.Reading.{Reading}
-use Rattle.csv_rows.proofs.Cleaned.{as-plain, bytes-kept}
-use Rattle.csv_rows.proofs.Exchanges.{reads-exchanged}
+use Rattle.csv_rows.specs.Readings.{records_as}
+use Rattle.csv_rows.specs.Records.{record_at}
 use Rattle.par_io.specs.Faults.{Rose}
 use Rattle.par_model.specs.Named.{NamedPlan, bound_plan, missing_name}
 use Rattle.par_model.specs.Outcome.{Refused as IsRefused, by_missing, by_refused}
@@ -74,27 +71,9 @@ fault_later from left f g h t takes rose = omega (arith, takes.faults, rose)
 
 -- ---- the rows
 
-comma : IsSeparator 44
-comma = record { ascii = omega arith; no_quote = λ e. cc e; no_return = λ e. cc e; no_feed = λ e. cc e }
-
-pub plain_separator : (reading : Reading) → reading ≡ plain → IsSeparator reading.separator
-plain_separator reading is = subst (λ (r : Reading). IsSeparator r.separator) (sym is) comma
-
--- the records of a text whose fields are read as they are
-plain_records : (reading : Reading) (bytes : List ℕ) → reading ≡ plain → records_of bytes ≡ records_as reading bytes
-plain_records reading bytes is = sym (ap (λ (r : Reading). records_as r bytes) is ∙ as-plain bytes)
-
-plain_all : (reading : Reading) (from : Option (List ℕ)) (records : Table) → reading ≡ plain → IfSome from (λ bytes. records_as reading bytes ≡ records) → IfSome from (λ bytes. records_of bytes ≡ records)
-plain_all reading None records is all = tt
-plain_all reading (Some bytes) records is all = plain_records reading bytes is ∙ all
-
--- and those of the input's bytes
-pub header_plain : (reading : Reading) (bytes : List ℕ) (records : Table) → reading ≡ plain → records_in reading bytes ≡ records → records_of bytes ≡ records
-header_plain reading bytes records is one = plain_records reading bytes is ∙ (ap (records_as reading) (bytes-kept reading.separator bytes (ap (λ (r : Reading). r.separator) is)) ∙ (reads-exchanged reading bytes (plain_separator reading is) ∙ one))
-
 -- all are counted
-pub counted_rows : (query : Query) (from : Option (List ℕ)) (r : ReadGroups) → query.reading ≡ plain → (over : AreGroupsOver (of_text query.reading) query from r) (m : GroupsByKey) → AreGroups r.bound over.rows m → AreCounted query over.header from r.rows m
-counted_rows query from r is over m are = record {
+pub counted_rows : (query : Query) (from : Option (List ℕ)) (r : ReadGroups) (over : AreGroupsOver (of_text query.reading) query from r) (m : GroupsByKey) → AreGroups r.bound over.rows m → AreCounted query over.header from r.rows m
+counted_rows query from r over m are = record {
   rows = over.rows;
   counted = over.count;
   few = over.few;
@@ -102,7 +81,7 @@ counted_rows query from r is over m are = record {
   none = subst (λ (b : Plan). refused_rows b (length over.header) over.rows ≡ []) over.bound.is
       (refused_in-none r.bound (over.header ∷ over.rows) (all_accepted r.bound (length over.header) over.rows r.gathered over.groups));
   are = subst (λ (b : Plan). AreGroups b over.rows m) over.bound.is are;
-  all = plain_all query.reading from (over.header ∷ over.rows) is over.all;
+  all = over.all;
 }
 
 by_list : (l others : List (ℕ × Refusal)) (r : ℕ × Refusal) → by_refused l ≡ IsRefused (r ∷ others) → l ≡ r ∷ others
@@ -115,7 +94,7 @@ by_name names header rows (Some name) others r is = cc is
 by_name names header rows None others r is = by_list (refused_rows (bound_plan header names) (length header) rows) others r is
 
 -- a row is the first refused one
-refused_first : (query : Query) (header : List (List ℕ)) (records : Table) (bytes : List ℕ) (others : List (ℕ × Refusal)) (why : RefusedRow) → records_of bytes ≡ records → record_at records 0 ≡ header
+refused_first : (query : Query) (header : List (List ℕ)) (records : Table) (bytes : List ℕ) (others : List (ℕ × Refusal)) (why : RefusedRow) → records_as query.reading bytes ≡ records → record_at records 0 ≡ header
     → outcome query.plan records ≡ IsRefused ((why.row, record { cause = why.cause; item = why.item }) ∷ others) → RefuseFirst query header why bytes
 refused_first query header [] bytes others why are same is = cc is
 refused_first query header (head ∷ rows) bytes others why are same is = record {
@@ -128,8 +107,8 @@ refused_first query header (head ∷ rows) bytes others why are same is = record
   };
 }
 
-pub refused_rows_of : (query : Query) (from : Option (List ℕ)) (row line : ℕ) (why : Refusal) (header_line said : List ℕ) → query.reading ≡ plain → (names : NamesFirstRow (of_text query.reading) query from row line why header_line said)
+pub refused_rows_of : (query : Query) (from : Option (List ℕ)) (row line : ℕ) (why : Refusal) (header_line said : List ℕ) (names : NamesFirstRow (of_text query.reading) query from row line why header_line said)
     → IfSome from (RefuseFirst query names.header (record { row = row; cause = why.cause; item = why.item }))
-refused_rows_of query None row line why header_line said is names = tt
-refused_rows_of query (Some bytes) row line why header_line said is names =
-    refused_first query names.header (records_as query.reading bytes) bytes names.first.0 (record { row = row; cause = why.cause; item = why.item }) (plain_records query.reading bytes is) names.are.0 names.first.1
+refused_rows_of query None row line why header_line said names = tt
+refused_rows_of query (Some bytes) row line why header_line said names =
+    refused_first query names.header (records_as query.reading bytes) bytes names.first.0 (record { row = row; cause = why.cause; item = why.item }) refl names.are.0 names.first.1

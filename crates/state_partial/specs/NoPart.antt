@@ -3,18 +3,15 @@ use Rattle.std.specs.Prelude.{◌≡◌, ◌<◌, ◌⊎◌, ℕ, List, IfSome, 
 use Rattle.answer_text.specs.declared.status.TheConstants.{MISUSED, READ_FAULT, TOO_LARGE}
 use Rattle.plan_spec.specs.Query.{Query}
 use Rattle.state_plan.specs.FilePlans.{AskFor, HaveNoQuery}
-<<<<<<< ours
-use Rattle.state_plan.specs.declared.file_plan.PlanFault.TheVariants as fault
-use Rattle.state_partial.specs.Places.{AreLeft, IsLonger}
-=======
->>>>>>> theirs
+use Rattle.state_partial.specs.Places.{AreLeft, IsLonger, text_left}
+use Rattle.state_partial.specs.TooLong.{AskForLong}
 use Rattle.state_partial.specs.Words.{Asked, asked_in}
 use Rattle.state_partial.specs.declared.no_part.NoPart.{NoPart}
 use Rattle.state_partial.specs.declared.no_part.NoPart.TheVariants as no_part
 use Rattle.state_partial.specs.declared.words.Extent.{Extent}
 use Rattle.state_partial.specs.declared.words.Extent.TheVariants as extent
 use Rattle.stream_groups.specs.Stops.{Tells, stop_says}
-use Rattle.stream_groups.specs.Ways.{of_bytes}
+use Rattle.stream_groups.specs.Ways.{of_text}
 use Rattle.stream_groups.specs.declared.stop.Stop.{Stop}
 use Rattle.stream_groups.specs.declared.stop.Stop.TheVariants as stop
 use Rattle.stream_groups.specs.declared.stop.TheConstants.{LONG_RECORD}
@@ -68,11 +65,13 @@ abbrev pub OfTile : (Span → List ℕ → Type 0) → Extent → Option (List �
 OfTile is extent.Whole left = ⊥
 OfTile is (extent.Tile span) left = IfSome left (is span)
 
--- words ask for a tile of which this is so
+-- words ask for a tile of which this is so, by their query
 pub record AskForTile (is : Span → List ℕ → Type 0) (words : List (List ℕ)) (left : Option (List ℕ)) : Type 0 where
   pub asked : Asked
   pub is_asked : asked_in words ≡ Some asked
-  pub so : OfTile is asked.extent left
+  pub query : Query
+  pub ask_for : AskFor asked.words query
+  pub so : OfTile is asked.extent (text_left query left)
 
 -- ---- what is so of what was read
 
@@ -82,13 +81,9 @@ pub record TellsOfPart (words : List (List ℕ)) (left : Option (List ℕ)) (why
   pub is_asked : asked_in words ≡ Some asked
   pub query : Query
   pub ask_for : AskFor asked.words query
-<<<<<<< ours
   pub read : Option (List ℕ)
-  pub are_left : AreLeft asked.extent left read
-  pub tells : Tells query read why
-=======
-  pub tells : Tells (of_bytes query.reading) query left why
->>>>>>> theirs
+  pub are_left : AreLeft asked.extent (text_left query left) read
+  pub tells : Tells (of_text query.reading) query read why
 
 -- why the reading or the writing ended: a refused row is no reason
 abbrev pub IsStopOf : List (List ℕ) → Option (List ℕ) → Stop → Type 0
@@ -105,12 +100,16 @@ IsStopOf words left stop.Memory = ⊤
 -- a reason is one of these words and these bytes; so many reads failed since the source had ended before its size
 abbrev pub IsNoPart : List (List ℕ) → Option (List ℕ) → ℕ → NoPart → Type 0
 IsNoPart words left lacks no_part.Usage = AskForNone words
-IsNoPart words left lacks no_part.Long = ⊤
+IsNoPart words left lacks no_part.Long = AskForLong words left
 IsNoPart words left lacks no_part.NoLine = AskForTile LacksLine words left
 IsNoPart words left lacks no_part.LongHeader = AskForTile (λ span. HasLongHeader) words left
 IsNoPart words left lacks no_part.Short = AskForTile IsShorter words left ⊎ (0 < lacks)
 IsNoPart words left lacks no_part.Grown = AskForTile IsLonger words left
 IsNoPart words left lacks (no_part.Stopped why) = IsStopOf words left why
+
+-- a reason is one of whatever source brings this text with commas
+abbrev pub IsWhyOf : List (List ℕ) → Query → Option (List ℕ) → ℕ → NoPart → Type 0
+IsWhyOf words query read lacks why = (left : Option (List ℕ)) → read ≡ text_left query left → IsNoPart words left lacks why
 
 -- a tile that is asked for has no beginning
 abbrev pub HasNoBegin : Extent → Option (List ℕ) → NoPart → Type 0

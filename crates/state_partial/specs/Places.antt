@@ -1,5 +1,7 @@
 -- Which bytes of a source a part is of: what was read of those that the source brings, and where they lie.
-use Rattle.std.specs.Prelude.{◌≡◌, ◌<◌, ◌≤◌, ◌+◌, ◌-◌, ◌^◌, ◌⊎◌, ◌∷◌, [], ℕ, zero, suc, List, Option, IfSome, Some, length}
+use Rattle.std.specs.Prelude.{◌≡◌, ◌<◌, ◌≤◌, ◌+◌, ◌-◌, ◌^◌, ◌⊎◌, ◌∷◌, [], ℕ, zero, suc, List, Option, IfSome, Some, length, map, option_map}
+use Rattle.csv_rows.specs.Readings.{exchanged}
+use Rattle.plan_spec.specs.Query.{Query}
 use Rattle.state_head.specs.declared.cover.Place.{Place}
 use Rattle.state_head.specs.declared.cover.Rows.{Rows}
 use Rattle.state_head.specs.declared.cover.Stretch.{Stretch}
@@ -11,6 +13,14 @@ use Rattle.tile_source.specs.declared.open.Begin.{Begin}
 use Rattle.tile_source.specs.declared.open.Span.{Span}
 
 -- ---- what is read
+
+-- the text with a comma between two fields that some bytes are by a query: the comma and its separator are exchanged
+abbrev pub text_by : Query → List ℕ → List ℕ
+text_by query bytes = map (exchanged query.reading.separator) bytes
+
+-- that of a source, if it tells what it brings
+abbrev pub text_left : Query → Option (List ℕ) → Option (List ℕ)
+text_left query left = option_map (text_by query) left
 
 -- what a source that brings these bytes has left when its reading begins: all of them, or the header and a tile
 abbrev pub IsLeft : Extent → List ℕ → Begin → Option (List ℕ) → Type 0

@@ -1,7 +1,7 @@
 -- What was read of a source, whole.
 use Rattle.std.specs.Prelude.{◌≡◌, ◌≤◌, ◌^◌, ◌∷◌, ℕ, List, [], All, IfSome, Option, length}
 use Rattle.std.specs.FinMap as map
-use Rattle.csv_rows.specs.Records.{records_of}
+use Rattle.csv_rows.specs.Readings.{records_as, records_in}
 use Rattle.par_model.specs.Named.{bound_plan}
 use Rattle.par_model.specs.Refuse.{refused_rows}
 use Rattle.partial_agg.specs.Groups.{AreGroups, GroupsByKey}
@@ -22,12 +22,12 @@ pub record AreCounted (query : Query) (header : List (List ℕ)) (from : Option 
   pub accepted : All (IsAccepted (bound_plan header query.plan) (length header)) rows
   pub none : refused_rows (bound_plan header query.plan) (length header) rows ≡ []
   pub are : AreGroups (bound_plan header query.plan) rows groups
-  pub all : IfSome from (λ bytes. records_of bytes ≡ header ∷ rows)
+  pub all : IfSome from (λ bytes. records_as query.reading bytes ≡ header ∷ rows)
 
 -- this is the first refused row of some bytes
 pub record RefuseFirst (query : Query) (header : List (List ℕ)) (why : RefusedRow) (bytes : List ℕ) : Type 0 where
   pub rows : Table
-  pub are : records_of bytes ≡ header ∷ rows
+  pub are : records_as query.reading bytes ≡ header ∷ rows
   pub first : IsFirstRow (bound_plan header query.plan) (length header) rows why
 
 -- there are no groups; if the source tells what it had left, this is its first refused row
@@ -39,9 +39,10 @@ abbrev pub AreRowsOf : Query → List (List ℕ) → Option (List ℕ) → Rows 
 AreRowsOf query header from (Counted many) groups = AreCounted query header from many groups
 AreRowsOf query header from (Refused why) groups = AreRefused query header from why groups
 
--- what a source comes to: its header, which is one record, its rows, and its size, if it tells what it had left
+-- what a source of text with commas comes to: its header, which is one record of the bytes in the input, its rows, and its size, if it
+-- tells what it had left
 pub record IsPartRead (query : Query) (from : Option (List ℕ)) (p : Part) : Type 0 where
   pub header : List (List ℕ)
-  pub one : records_of p.header.items ≡ header ∷ []
+  pub one : records_in query.reading p.header.items ≡ header ∷ []
   pub are : AreRowsOf query header from p.rows p.map
   pub size : IfSome from (λ bytes. p.size ≡ length bytes)

@@ -1,11 +1,11 @@
 -- What the words of `partial` ask for.
-use Rattle.std.specs.Prelude.{◌==◌, ◌&&◌, ◌∷◌, [], ℕ, false, true, List, Option, Some, None, bytes_eq, codes, flat_map, if◌then◌else◌, length, nat_le, nat_lt, option_and_then, option_map}
+use Rattle.std.specs.Prelude.{◌==◌, ◌&&◌, ◌++◌, ◌∷◌, [], Bool, ℕ, false, true, List, Option, Some, None, bytes_eq, codes, flat_map, if◌then◌else◌, length, nat_le, nat_lt, option_and_then, option_map}
 use Rattle.std.specs.Char.{is_ascii_digit}
 use Rattle.std.specs.List.{after_first, before_first, list_all, list_any}
 use Rattle.std.specs.Str.Parse.{digits_value}
 use Rattle.clap.specs.Words.{App, new_app, with_rule}
 use Rattle.plan_spec.specs.Grammar.{number_in}
-use Rattle.plan_spec.specs.Options.{bare, is_command_line, option_of, repeated_of, value_of, values_of}
+use Rattle.plan_spec.specs.Options.{bare, flag_in, is_command_line, option_of, reading_command, repeated_of, value_of, values_of}
 use Rattle.plan_spec.specs.Query.{number_given, text_of}
 use Rattle.plan_spec.specs.declared.plan.TheConstants.{MOST_WORKERS}
 use Rattle.state_file.specs.Text.{text_bytes}
@@ -28,14 +28,18 @@ pub record Asked : Type 0 where
 abbrev pub asked_of : PartWords → Asked
 asked_of p = record { words = record { group = p.group.now; agg = p.agg.now; filter = p.filters.items; decimals = p.decimals.now }; workers = p.workers; part = p.part; extent = p.extent }
 
--- the options of a plan, as the crate clap has them: those of parstream
-abbrev pub plan_command : App
-plan_command = with_rule (with_rule (with_rule (with_rule (with_rule (bare (new_app (codes "partial")))
+-- the options of parstream that say what is asked of the rows, and by how many workers, as the crate clap has them
+abbrev pub asking_command : App
+asking_command = with_rule (with_rule (with_rule (with_rule (with_rule (bare (new_app (codes "partial")))
     (option_of (codes "group") false))
     (option_of (codes "agg") true))
     (repeated_of (codes "where")))
     (option_of (codes "workers") false))
     (option_of (codes "decimals") false)
+
+-- the options of a plan: those of parstream
+abbrev pub plan_command : App
+plan_command = reading_command asking_command
 
 -- which source, and which bytes of it
 abbrev pub partial_command : App
@@ -89,6 +93,21 @@ extent_given (Some bytes) (Some size) = option_map (λ span. extent.Tile span) (
 abbrev pub filters_of : List (List ℕ) → List ℕ
 filters_of texts = flat_map text_bytes texts
 
+-- a value after this text, if it is given
+abbrev pub text_after : List ℕ → Option (List ℕ) → List (List ℕ)
+text_after front None = []
+text_after front (Some value) = (front ++ value) ∷ []
+
+-- how fields are read, as a head has it among the filters: after them, and each option in one order
+abbrev pub reading_texts : Option (List ℕ) → Option (List ℕ) → Bool → List (List ℕ)
+reading_texts separator nulls trim = text_after (codes "=separator=") separator ++ (text_after (codes "=null=") nulls ++ (if trim then codes "=trim" ∷ [] else []))
+
+-- the filters that words give, and how fields are read
+abbrev pub filters_in : List (List ℕ) → List ℕ
+filters_in words =
+    filters_of (values_of partial_command (codes "where") words)
+    ++ filters_of (reading_texts (value_of partial_command (codes "separator") words) (value_of partial_command (codes "null") words) (flag_in partial_command (codes "trim") words))
+
 -- what all values ask for, if each is one
 abbrev pub asked_by : Option (List ℕ) → Option (List ℕ) → Option (List ℕ) → List ℕ → Option ℕ → Option SourcePart → Option Extent → Option Asked
 asked_by group agg decimals filters workers part which =
@@ -105,7 +124,7 @@ unfoldable pub asked_in : List (List ℕ) → Option Asked
 asked_in words =
     if is_command_line partial_command words
     then asked_by (text_given (value_of partial_command (codes "group") words)) (text_given (value_of partial_command (codes "agg") words)) (text_given (value_of partial_command (codes "decimals") words))
-    (filters_of (values_of partial_command (codes "where") words)) (number_given MOST_WORKERS WORKERS (value_of partial_command (codes "workers") words)) (source_given (value_of partial_command (codes "source") words))
+    (filters_in words) (number_given MOST_WORKERS WORKERS (value_of partial_command (codes "workers") words)) (source_given (value_of partial_command (codes "source") words))
     (extent_given (value_of partial_command (codes "bytes") words) (value_of partial_command (codes "size") words))
     else None
 

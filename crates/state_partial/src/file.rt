@@ -6,8 +6,9 @@ ghost use Rattle.state_head.specs.Head.{subject_of};
 ghost use Rattle.state_head.specs.Words.{keys_of, words_of};
 ghost use Rattle.state_plan.specs.FilePlans.{AskFor, IsPlanOf};
 ghost use Rattle.state_partial.specs.Parts.{IsPartText};
-ghost use Rattle.state_partial.specs.Places.{AreRead, IsCoverOf, IsFilled, IsWithin};
+ghost use Rattle.state_partial.specs.Places.{AreRead, IsCoverOf, IsFilled, IsWithin, text_by};
 ghost use Rattle.state_partial.specs.Reads.{IsPartRead};
+ghost use Rattle.state_partial.specs.TooLong.{IsLongPart};
 ghost use Rattle.state_partial.specs.Words.{asked_in, asked_of};
 ghost use Rattle.state_partial.specs.declared.no_part.NoPart.TheVariants as no_part;
 ghost use Rattle.stream_groups.specs.declared.stop.Stop.TheVariants as stop;
@@ -16,14 +17,13 @@ use crate::fits::fits_head;
 use crate::no_part::NoPart;
 use crate::reading::Part;
 use crate::words::PartWords;
-use csv_rows::rows;
 use plan_spec::Plan;
 use state_head::{Head, KeyRange, Place, Rows, Stretch, Whole};
 use state_lanes::{kinds_of, lanes_of};
 use state_law::groups_are_told;
-use state_plan::FilePlan;
+use state_plan::{FilePlan, header_of};
 use state_runs::push_all;
-use state_save::saved_is_read;
+use state_save::{long_is_known, saved_is_read};
 use state_writer::WriteError;
 use std::alloc::{AllocError, Global};
 use std::thread::Threads;
@@ -42,9 +42,10 @@ pub(crate) fn file_of<R: Threads + Sync>(
     requires read { (from : Option (List ℕ)) × IsPartRead plan from part }
     requires part { asked.now.part.source < asked.now.part.sources }
     requires place { IsWithin asked.now.part.source place }
-    ensures file { IfOk result (λ file. (words : List (List ℕ)) (bytes read : List ℕ) → asked_in words ≡ Some (asked_of asked.now) → AreRead asked.now.part.source asked.now.extent bytes place read
+    ensures file { IfOk result (λ file. (words : List (List ℕ)) (bytes read : List ℕ) → asked_in words ≡ Some (asked_of asked.now) → AreRead asked.now.part.source asked.now.extent (text_by plan bytes) place read
         → IsPartRead plan (Some read) part → IsPartText words bytes file.items) }
     ensures why { IfErr result (λ why. (why ≡ no_part.Long) ⊎ (why ≡ no_part.Stopped stop.Memory)) }
+    ensures long { IfErr result (λ why. why ≡ no_part.Long → (bytes read : List ℕ) → AreRead asked.now.part.source asked.now.extent (text_by plan bytes) place read → IsPartRead plan (Some read) part → IsLongPart (asked_of asked.now) bytes) }
 {
     let Part {
         header,
@@ -72,9 +73,10 @@ pub(crate) fn file_of<R: Threads + Sync>(
         cover,
         range: all_keys(),
     };
-    // Tells that a reader takes the file. It does nothing.
+    // Tell that a reader takes the file, and when it is too long. They do nothing.
     groups_are_told();
     saved_is_read();
+    long_is_known();
     let mut file = Vec::new(alloc);
     let threads = asked.workers as usize + 1;
     match push_all(rt, alloc, &mut file, &head, map, &plan.shape(), threads) {
@@ -132,12 +134,9 @@ fn file_plan(alloc: Global, plan: Plan, whole: Whole<'_>) -> Result<FilePlan, Al
     ensures plan { IfOk result (IsPlanOf (subject_of whole.entry)) }
     ensures same { IfOk result (λ made. made.plan ≡ plan) }
 {
-    let Ok(header) = rows(alloc, whole.header) else {
+    let Ok(header) = header_of(alloc, &plan, whole.header) else {
         return Err(AllocError);
     };
-    if header.count() > 0 {
-        return Err(AllocError);
-    }
     let Ok(bound) = plan.bind(&header) else {
         return Err(AllocError);
     };

@@ -1,9 +1,10 @@
 //! What a head has room for.
 
-ghost use Rattle.std.specs.Prelude.{◌≤◌, ◌^◌, length};
+ghost use Rattle.std.specs.Prelude.{◌≡◌, ◌≤◌, ◌^◌, ◌↔◌, IsTrue, false, length};
 ghost use Rattle.std.specs.Bool.{OnTrue};
 ghost use Rattle.state_head.specs.Cover.{AreRows};
 ghost use Rattle.state_head.specs.Words.{AreWords, words_of};
+ghost use Rattle.state_partial.specs.TooLong.{HasNoRoom};
 
 use state_head::{PlanWords, Rows, Whole};
 
@@ -21,13 +22,20 @@ pub(crate) fn fits_head(whole: Whole<'_>, rows: Rows) -> bool
     ensures words { OnTrue result (AreWords (words_of whole.entry.words)) }
     ensures header { OnTrue result (length whole.entry.header.now ≤ 2 ^ 28) }
     ensures rows { OnTrue result (AreRows rows) }
+    ensures no_room { result ≡ false → HasNoRoom (words_of whole.entry.words) whole.entry.header.now rows }
 {
-    are_short(whole.words) && whole.header.len() <= MOST_HEADER && are_rows(rows)
+    if !are_short(whole.words) {
+        return false;
+    }
+    if whole.header.len() > MOST_HEADER {
+        return false;
+    }
+    are_rows(rows)
 }
 
 /// Whether no word is too long.
 fn are_short(words: PlanWords<'_>) -> bool
-    ensures { OnTrue result (AreWords (words_of words.entry)) }
+    ensures { IsTrue result ↔ AreWords (words_of words.entry) }
 {
     words.group.len() <= MOST_WORD
         && words.agg.len() <= MOST_WORD
@@ -37,7 +45,7 @@ fn are_short(words: PlanWords<'_>) -> bool
 
 /// Whether rows are not too many, or a refused one has a number, a cause and a place.
 fn are_rows(rows: Rows) -> bool
-    ensures { OnTrue result (AreRows rows) }
+    ensures { IsTrue result ↔ AreRows rows }
 {
     match rows {
         Rows::Counted(many) => many <= MOST_ROWS,

@@ -2,14 +2,13 @@
 
 ghost use Rattle.std.specs.Prelude.{◌≡◌, ◌⊎◌, ◌≤◌, ℕ, List, Option, IfErr, IfOk, IfSome, length};
 ghost use Rattle.std.specs.Io.KnownBytes.{IsAtEnd};
-ghost use Rattle.csv_rows.specs.Readings.{plain};
 ghost use Rattle.par_io.specs.Faults.{Rose};
 ghost use Rattle.plan_spec.specs.Query.{Query};
 ghost use Rattle.state_partial.specs.Reads.{IsPartRead};
 ghost use Rattle.stream_groups.specs.Reading.{AreGroupsOver};
 ghost use Rattle.stream_groups.specs.Stops.{Tells};
 ghost use Rattle.stream_groups.specs.Taken.{Takes};
-ghost use Rattle.stream_groups.specs.Ways.{of_bytes, of_text};
+ghost use Rattle.stream_groups.specs.Ways.{of_text};
 ghost use Rattle.stream_groups.specs.declared.stop.Stop.TheVariants as stop;
 ghost use Rattle.stream_groups.specs.declared.taken.Taken.TheVariants as amount;
 
@@ -24,7 +23,7 @@ use std::sync::Wait;
 use std::thread::Threads;
 use stream_groups::{Progress, ReadGroups, RefusedRow as StoppedRow, Stop, Taken, read_groups};
 
-/// What a source comes to: the header as it is written there, how many rows there are or the first refused one, their groups, and how many
+/// What a source comes to: the header as it is written in the input, how many rows there are or the first refused one, their groups, and how many
 /// bytes it has.
 #[derive(Drop)]
 pub(crate) struct Part {
@@ -34,7 +33,7 @@ pub(crate) struct Part {
     pub(crate) size: u64,
 }
 
-/// Reads a source whole, also after a refused row, with this many workers. Fields are read as they are, between commas.
+/// Reads a source whole, also after a refused row, with this many workers. Its text has a comma between two fields.
 pub(crate) fn read_part<R: Threads + Wait + Sync, S: Source, P: Progress>(
     rt: &R,
     alloc: Global,
@@ -45,9 +44,8 @@ pub(crate) fn read_part<R: Threads + Wait + Sync, S: Source, P: Progress>(
     progress: &mut P,
 ) -> Result<Part, Stop>
     requires workers { workers ≤ MOST_WORKERS }
-    requires plain { plan.now.reading ≡ plain }
     ensures read { IfOk result (IsPartRead plan.now (S.left source.old)) }
-    ensures why { IfErr result (Tells (of_bytes plan.now.reading) plan.now (S.left source.old)) }
+    ensures why { IfErr result (Tells (of_text plan.now.reading) plan.now (S.left source.old)) }
     ensures no_row { IfErr result (λ why. (row : StoppedRow) → why ≡ stop.Refused row → ⊥) }
     ensures read_fault { IfErr result (λ why. why ≡ stop.ReadFault → Rose (S.faults source.old) (S.faults source.new)) }
     ensures no_write { IfErr result (λ why. (why ≡ stop.WriteFault) → ⊥) }
@@ -81,12 +79,8 @@ fn counted_part<R: Threads + Sync>(
     read: ReadGroups,
     taken: Taken,
 ) -> Result<Part, Stop>
-<<<<<<< ours
-    requires { (query : Query) × (from : Option (List ℕ)) × AreGroupsOver query from read }
-    ensures read { IfOk result (λ part. (query : Query) (from left : Option (List ℕ)) (before after : ℕ) → AreGroupsOver query from read → IsAtEnd left → Takes from left before after (amount.Bytes 0) taken → IsPartRead query from part) }
-=======
-    ensures read { IfOk result (λ part. (query : Query) (from left : Option (List ℕ)) (before after : ℕ) → query.reading ≡ plain → AreGroupsOver (of_text query.reading) query from read → IsAtEnd left → Takes from left before after (amount.Bytes 0) taken → IsPartRead query from part) }
->>>>>>> theirs
+    requires { (query : Query) × (from : Option (List ℕ)) × AreGroupsOver (of_text query.reading) query from read }
+    ensures read { IfOk result (λ part. (query : Query) (from left : Option (List ℕ)) (before after : ℕ) → AreGroupsOver (of_text query.reading) query from read → IsAtEnd left → Takes from left before after (amount.Bytes 0) taken → IsPartRead query from part) }
     ensures why { IfErr result (λ why. why ≡ stop.Memory) }
 {
     let Taken::Bytes(size) = taken else {
@@ -109,7 +103,7 @@ fn counted_part<R: Threads + Sync>(
 
 /// The part of a source of which this row is the first refused one.
 fn refused_part(alloc: Global, row: StoppedRow, size: u64) -> Part
-    ensures { (query : Query) (from : Option (List ℕ)) → query.reading ≡ plain → Tells (of_text query.reading) query from (stop.Refused row) → IfSome from (λ bytes. size ≡ length bytes) → IsPartRead query from result }
+    ensures { (query : Query) (from : Option (List ℕ)) → Tells (of_text query.reading) query from (stop.Refused row) → IfSome from (λ bytes. size ≡ length bytes) → IsPartRead query from result }
 {
     Part {
         header: row.header,

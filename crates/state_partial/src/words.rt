@@ -2,13 +2,14 @@
 //!
 //! They are read by the crate `clap`, as parstream's words are (`plan_spec`), so an option is written in each way that it has there.
 
-ghost use Rattle.std.specs.Prelude.{◌≡◌, ◌<◌, ◌≤◌, IfOk, IfSome, None, codes, map, option_map, true, false};
+ghost use Rattle.std.specs.Prelude.{◌≡◌, ◌<◌, ◌≤◌, ◌++◌, ◌∷◌, [], IfOk, IfSome, None, bytes_eq, codes, if◌then◌else◌, map, option_map, true, false};
+ghost use Rattle.std.specs.Option.{option_map_or};
 ghost use Rattle.answer_text.specs.Words.{texts};
 ghost use Rattle.clap.specs.Words.{app_of, found_of, is_simple_and_free, matches_of, rows_of, with_rule};
-ghost use Rattle.plan_spec.specs.Options.{is_command_line, option_of, value_of, values_of};
+ghost use Rattle.plan_spec.specs.Options.{flag_of, is_command_line, option_of, reading_command, value_of};
 ghost use Rattle.plan_spec.specs.Query.{number_given, text_of};
 ghost use Rattle.state_head.specs.Words.{words_of};
-ghost use Rattle.state_partial.specs.Words.{asked_in, asked_of, extent_given, filters_of, given_by, partial_command, place_in, plan_command, source_given, source_in, span_by, span_in, text_given};
+ghost use Rattle.state_partial.specs.Words.{asked_in, asked_of, asking_command, extent_given, filters_in, filters_of, given_by, partial_command, place_in, plan_command, reading_texts, source_given, source_in, span_by, span_in, text_after, text_given};
 
 use clap::error::ErrorKind;
 use clap::{Arg, ArgAction, ArgMatches, Command};
@@ -33,7 +34,7 @@ const FULL_PLACE: u64 = 100_000_000_000_000_000;
 /// Where a tile is to end that has no such place: at the end of the source.
 const OPEN_END: u64 = u64::MAX;
 
-/// The values of the options, each as it was given. Those of `--where` are texts one after another.
+/// The values of the options, each as it was given. Those of `--where`, and how fields are read, are texts one after another.
 #[derive(Drop)]
 pub(crate) struct Given<'a> {
     group: Option<&'a str>,
@@ -246,7 +247,7 @@ fn given_values<'a>(alloc: Global, words: &'a [String]) -> Result<Option<Given<'
     ensures group { IfOk result (λ found. IfSome found (λ g. text_of g.group ≡ value_of partial_command (codes "group") (texts words.now))) }
     ensures agg { IfOk result (λ found. IfSome found (λ g. text_of g.agg ≡ value_of partial_command (codes "agg") (texts words.now))) }
     ensures decimals { IfOk result (λ found. IfSome found (λ g. text_of g.decimals ≡ value_of partial_command (codes "decimals") (texts words.now))) }
-    ensures filters { IfOk result (λ found. IfSome found (λ g. g.filters.items ≡ filters_of (values_of partial_command (codes "where") (texts words.now)))) }
+    ensures filters { IfOk result (λ found. IfSome found (λ g. g.filters.items ≡ filters_in (texts words.now))) }
     ensures workers { IfOk result (λ found. IfSome found (λ g. text_of g.workers ≡ value_of partial_command (codes "workers") (texts words.now))) }
     ensures source { IfOk result (λ found. IfSome found (λ g. text_of g.source ≡ value_of partial_command (codes "source") (texts words.now))) }
     ensures bytes { IfOk result (λ found. IfSome found (λ g. text_of g.bytes ≡ value_of partial_command (codes "bytes") (texts words.now))) }
@@ -257,7 +258,11 @@ fn given_values<'a>(alloc: Global, words: &'a [String]) -> Result<Option<Given<'
     let Some(matches) = found else {
         return Ok(None);
     };
-    let filters = filter_texts(alloc, matches.get_strs("where").unwrap_or(&[]))?;
+    let texts = filter_texts(alloc, matches.get_strs("where").unwrap_or(&[]))?;
+    let separator = matches.get_str("separator");
+    let nulls = matches.get_str("null");
+    let trim = is_true(matches.get_str("trim"));
+    let filters = with_reading(alloc, texts, separator, nulls, trim)?;
     Ok(Some(Given {
         group: matches.get_str("group"),
         agg: matches.get_str("agg"),
@@ -279,6 +284,59 @@ fn filter_texts(alloc: Global, values: &[&str]) -> Result<Vec<u8>, AllocError>
         push_text(&mut texts, value.as_bytes())?;
     }
     Ok(texts)
+}
+
+/// Texts, and after them those that say how fields are read.
+fn with_reading(
+    alloc: Global,
+    texts: Vec<u8>,
+    separator: Option<&str>,
+    nulls: Option<&str>,
+    trim: bool,
+) -> Result<Vec<u8>, AllocError>
+    ensures { IfOk result (λ all. all.items ≡ texts.items ++ filters_of (reading_texts (text_of separator.entry) (text_of nulls.entry) trim)) }
+{
+    let parted = with_text(alloc, texts, "=separator=", separator)?;
+    let emptied = with_text(alloc, parted, "=null=", nulls)?;
+    with_mark(emptied, "=trim", trim)
+}
+
+/// Texts, and after them one with a value, if that is given.
+fn with_text(
+    alloc: Global,
+    mut texts: Vec<u8>,
+    front: &str,
+    value: Option<&str>,
+) -> Result<Vec<u8>, AllocError>
+    ensures { IfOk result (λ all. all.items ≡ texts.items ++ filters_of (text_after front.now (text_of value.entry))) }
+{
+    let Some(value) = value else {
+        return Ok(texts);
+    };
+    let mut text = Vec::from_slice(alloc, front.as_bytes())?;
+    text.extend_from_slice(value.as_bytes())?;
+    push_text(&mut texts, text.as_slice())?;
+    Ok(texts)
+}
+
+/// Texts, and after them one more, if it is to be there.
+fn with_mark(mut texts: Vec<u8>, mark: &str, is_there: bool) -> Result<Vec<u8>, AllocError>
+    ensures { IfOk result (λ all. all.items ≡ texts.items ++ filters_of (if is_there then mark.now ∷ [] else [])) }
+{
+    if is_there {
+        push_text(&mut texts, mark.as_bytes())?;
+    }
+    Ok(texts)
+}
+
+/// Whether the value of an option that takes none says that it is given.
+fn is_true(value: Option<&str>) -> bool
+    ensures { result ≡ option_map_or (bytes_eq (codes "true")) (text_of value.entry) false }
+{
+    match value {
+        Some(text) => text == "true",
+        None => false,
+    }
 }
 
 /// The parse of the words by a command of which `clap` states the matches and the faults in full; none if it has a fault.
@@ -308,9 +366,17 @@ fn partial<'a>(alloc: Global) -> Result<Command<'a>, AllocError>
     with_option(alloc, cut, "size", false)
 }
 
-/// A command with the five options of parstream, of which `--where` may be repeated.
+/// A command with the eight options of parstream, of which `--where` may be repeated and `--trim` takes no value.
 fn plan_options<'a>(alloc: Global) -> Result<Command<'a>, AllocError>
     ensures { IfOk result (λ c. app_of c ≡ plan_command) }
+{
+    let asking = asking_options(alloc)?;
+    with_reading_options(alloc, asking)
+}
+
+/// Those that say what is asked of the rows, and by how many workers.
+fn asking_options<'a>(alloc: Global) -> Result<Command<'a>, AllocError>
+    ensures { IfOk result (λ c. app_of c ≡ asking_command) }
 {
     let bare = Command::new(alloc, "partial").no_binary_name(true);
     let grouped = with_option(alloc, bare, "group", false)?;
@@ -322,6 +388,29 @@ fn plan_options<'a>(alloc: Global) -> Result<Command<'a>, AllocError>
     )?;
     let staffed = with_option(alloc, filtered, "workers", false)?;
     with_option(alloc, staffed, "decimals", false)
+}
+
+/// A command with those that say how fields are read.
+fn with_reading_options<'a>(
+    alloc: Global,
+    command: Command<'a>,
+) -> Result<Command<'a>, AllocError>
+    ensures { IfOk result (λ c. app_of c ≡ reading_command (app_of command.entry)) }
+{
+    let parted = with_option(alloc, command, "separator", false)?;
+    let emptied = with_option(alloc, parted, "null", false)?;
+    with_flag(alloc, emptied, "trim")
+}
+
+/// A command with one more option, which takes no value.
+fn with_flag<'a>(
+    alloc: Global,
+    command: Command<'a>,
+    name: &'a str,
+) -> Result<Command<'a>, AllocError>
+    ensures { IfOk result (λ c. app_of c ≡ with_rule (app_of command.entry) (flag_of name.entry.now)) }
+{
+    command.arg(Arg::new(alloc, name).long(name).action(ArgAction::SetTrue))
 }
 
 /// A command with one more option, which takes one value.

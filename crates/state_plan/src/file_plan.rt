@@ -1,7 +1,7 @@
 //! The plan of a head, and what the tuples of its file are of.
 
-ghost use Rattle.std.specs.Prelude.{◌≡◌, IfErr, IfOk, length};
-ghost use Rattle.csv_rows.specs.Records.{records_of};
+ghost use Rattle.std.specs.Prelude.{◌≡◌, IfErr, IfOk, length, map};
+ghost use Rattle.csv_rows.specs.Readings.{exchanged, records_as, records_in};
 ghost use Rattle.state_head.specs.Head.{Subject, subject_of};
 ghost use Rattle.state_head.specs.Words.{words_of};
 ghost use Rattle.state_plan.specs.FilePlans.{AskFor, HasNoPlan, HaveNoPlan, IsNoHeader, IsPlanOf};
@@ -9,7 +9,7 @@ ghost use Rattle.state_plan.specs.declared.file_plan.PlanFault.TheVariants as fa
 ghost use Rattle.state_whole.specs.Adding.{IsShape, IsShapeOf};
 
 use crate::plan::plan_of;
-use csv_rows::{RowStore, RowsAnswer, rows};
+use csv_rows::{Reading, RowStore, RowsAnswer, exchange, rows_as};
 use par_model::BoundPlan;
 use plan_spec::Plan;
 use state_head::{PlanWords, Whole};
@@ -52,7 +52,7 @@ impl FilePlan {
         ensures refused { IfErr result (HasNoPlan (subject_of whole.entry)) }
     {
         let plan = plan_in(alloc, whole.words)?;
-        let header = header_of(alloc, whole.header)?;
+        let header = header_of(alloc, &plan, whole.header)?;
         let Ok(bound) = plan.bind(&header) else {
             return Err(PlanFault::Column);
         };
@@ -91,12 +91,31 @@ fn plan_in(alloc: Global, words: PlanWords<'_>) -> Result<Plan, PlanFault>
     }
 }
 
-/// The record that some bytes are, if they are one.
-fn header_of(alloc: Global, bytes: &[u8]) -> Result<RowStore, PlanFault>
-    ensures one { IfOk result (λ header. (header ≡ records_of bytes.now) × (length header ≡ 1)) }
-    ensures refused { IfErr result (IsNoHeader bytes.now) }
+/// The record that some bytes are, as a plan reads them, if they are one. It takes memory for the bytes and the record.
+pub fn header_of(alloc: Global, plan: &Plan, bytes: &[u8]) -> Result<RowStore, PlanFault>
+    ensures one { IfOk result (λ header. (header ≡ records_in plan.now.reading bytes.now) × (length header ≡ 1)) }
+    ensures refused { IfErr result (IsNoHeader (records_in plan.now.reading bytes.now)) }
 {
-    match rows(alloc, bytes) {
+    let reading = plan.reading();
+    let text = comma_text(alloc, bytes, reading.separator)?;
+    one_record(alloc, reading, text.as_slice())
+}
+
+/// Some bytes, of which the comma and the separator are exchanged.
+fn comma_text(alloc: Global, bytes: &[u8], separator: u8) -> Result<Vec<u8>, AllocError>
+    ensures { IfOk result (λ text. text.items ≡ map (exchanged separator) bytes.now) }
+{
+    let mut text = Vec::from_slice(alloc, bytes)?;
+    exchange(text.as_mut_slice(), separator);
+    Ok(text)
+}
+
+/// The record that a text with commas is, if it is one.
+fn one_record(alloc: Global, reading: &Reading, text: &[u8]) -> Result<RowStore, PlanFault>
+    ensures one { IfOk result (λ header. (header ≡ records_as reading.now text.now) × (length header ≡ 1)) }
+    ensures refused { IfErr result (IsNoHeader (records_as reading.now text.now)) }
+{
+    match rows_as(alloc, reading, text) {
         Ok(header) => {
             if header.count() == 0 {
                 Ok(header)

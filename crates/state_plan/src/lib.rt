@@ -6,5 +6,5 @@ mod file_plan;
 mod plan;
 mod words;
 
-pub use file_plan::{FilePlan, PlanFault};
+pub use file_plan::{FilePlan, PlanFault, header_of};
 pub use plan::plan_of;

@@ -1,23 +1,22 @@
 -- What is loaded of an input.
-use Rattle.std.proofs.Common.{◌≡◌, ◌<◌, ◌++◌, ℕ, List, [], ◌∷◌, ap, arith, length, length-append, refl, subst}
+use Rattle.std.proofs.Common.{◌≡◌, ◌<◌, ◌++◌, ℕ, List, [], ◌∷◌, ap, arith, length, length-append, refl, subst, sym, ◌∙◌}
 use Rattle.std.specs.FinMap as map
 use Rattle.par_model.specs.Named.{bound_plan}
 use Rattle.par_model.specs.Plan.{Plan}
 use Rattle.state_front.specs.Front.{IsFront, front_bytes, name_bytes}
 use Rattle.state_head.specs.Head.{Preface, Subject, subject_of}
-use Rattle.state_head.specs.Words.{keys_of}
-use Rattle.state_head.specs.declared.whole.Whole.{Whole}
-use Rattle.state_head.specs.declared.words.KeyRange.{KeyRange}
+use Rattle.state_head.specs.Words.{Keys, keys_of}
 use Rattle.state_load.specs.Faults.{AreNoParts}
 use Rattle.state_load.specs.Loading.{AreAdded, files_bytes}
 use Rattle.state_load.specs.declared.loading.LoadFault.{LoadFault}
-use Rattle.state_plan.specs.FilePlans.{IsPlanOf, header_of}
+use Rattle.state_plan.specs.FilePlans.{AskFor, IsPlanOf, header_of}
 use Rattle.state_plan.specs.declared.file_plan.FilePlan.{FilePlan}
 use Rattle.state_whole.specs.Adding.{IsShapeOf}
 use Rattle.state_whole.specs.Files.{StateFile}
 use Rattle.state_whole.specs.declared.adding.Shape.{Shape}
 use Rattle.state_whole.specs.declared.files.Sum.{Sum}
-use Rattle.state_query.specs.Inputs.{Input, IsLoaded}
+use Rattle.state_query.specs.Inputs.{Input, IsLoaded, IsOpened}
+use Rattle.state_query.specs.declared.input.Opened.{Opened}
 use Rattle.state_query.specs.Whys.{GoesWrong}
 
 -- a front has bytes
@@ -34,41 +33,44 @@ some_files shape front rest bytes [] begins is =
 some_files shape front rest bytes (f ∷ files) begins is = omega arith
 
 -- the shape of a plan over the columns of a header
-pub shape_of : (s : Subject) (plan : FilePlan) (shape : Shape) → IsPlanOf s plan → IsShapeOf plan.bound shape → IsShapeOf (bound_plan (header_of s) plan.plan.plan) shape
+pub shape_of : (s : Subject) (plan : FilePlan) (shape : Shape) → IsPlanOf s plan → IsShapeOf plan.bound shape → IsShapeOf (bound_plan (header_of plan.plan.reading s) plan.plan.plan) shape
 shape_of s plan shape is of = subst (λ (p : Plan). IsShapeOf p shape) is.bound of
 
-abbrev pub made_of : Whole → KeyRange → FilePlan → Shape → List StateFile → Input
-made_of whole range plan shape files = record { subject = subject_of whole; keys = keys_of range; query = plan.plan; shape = shape; files = files }
+abbrev pub made_of : Opened → Shape → List StateFile → Input
+made_of opened shape files = record { subject = subject_of opened.whole; keys = keys_of opened.range; query = opened.plan.plan; shape = shape; files = files }
 
-pub loaded : (bytes : List ℕ) (front : Preface) (rest : List ℕ) (whole : Whole) (range : KeyRange) (plan : FilePlan) (shape : Shape) (sum : Sum) (count : ℕ) → bytes ≡ front_bytes front ++ rest → IsPlanOf (subject_of whole) plan → IsShapeOf plan.bound shape
-    → AreAdded shape (subject_of whole) (keys_of range) bytes map.empty [] sum count → IsLoaded bytes (record { whole = whole; range = range; plan = plan; sum = sum })
-loaded bytes front rest whole range plan shape sum count begins is of added = record {
-  input = made_of whole range plan shape added.files;
+pub loaded : (within : Keys) (bytes : List ℕ) (opened : Opened) (shape : Shape) (sum : Sum) (count : ℕ) (is : IsOpened bytes opened) → IsShapeOf opened.plan.bound shape → sum.kept.columns ≡ length opened.plan.bound.groups → keys_of sum.kept.range ≡ within
+    → AreAdded shape (subject_of opened.whole) (keys_of opened.range) bytes map.empty [] sum count → IsLoaded within bytes (record { whole = opened.whole; range = opened.range; plan = opened.plan; sum = sum })
+loaded within bytes opened shape sum count is of columns range added = record {
+  input = made_of opened shape added.files;
   is_input = record {
-    some = some_files shape front rest bytes added.files begins added.is;
-    ask_for = is.ask_for;
-    one = is.one;
-    whole = is.whole;
-    is_shape = shape_of (subject_of whole) plan shape is of;
+    some = some_files shape is.front is.rest bytes added.files is.begins added.is;
+    ask_for = is.is_plan.ask_for;
+    one = is.is_plan.one;
+    whole = is.is_plan.whole;
+    is_shape = shape_of (subject_of opened.whole) opened.plan shape is.is_plan of;
     are = added.are;
     is = added.is;
   };
   subject_is = refl;
   keys_are = refl;
-  is_plan = is;
+  is_plan = is.is_plan;
   query_is = refl;
+  columns_are = columns ∙ ap (λ (p : Plan). length p.groups) is.is_plan.bound;
+  within_is = range;
   sum_is = added.sum_is;
 }
 
 -- a file that is not taken
-pub goes_wrong : (bytes : List ℕ) (front : Preface) (rest : List ℕ) (plan : FilePlan) (shape : Shape) (fault : LoadFault) → IsFront front → bytes ≡ front_bytes front ++ rest → IsPlanOf front.subject plan → IsShapeOf plan.bound shape
-    → AreNoParts shape front.subject front.keys map.empty bytes fault → GoesWrong bytes fault
-goes_wrong bytes front rest plan shape fault is_front begins is of none = record {
-  front = front;
-  begins = record { is_front = is_front; rest = rest; is = begins };
-  query = plan.plan;
-  ask_for = is.ask_for;
-  shape = shape;
-  is_shape = shape_of front.subject plan shape is of;
-  none = none;
-}
+pub goes_wrong : (bytes : List ℕ) (opened : Opened) (shape : Shape) (fault : LoadFault) → IsOpened bytes opened → IsShapeOf opened.plan.bound shape → AreNoParts shape (subject_of opened.whole) (keys_of opened.range) map.empty bytes fault → GoesWrong bytes fault
+goes_wrong bytes opened shape fault is of none =
+    let by_keys = subst (λ (k : Keys). AreNoParts shape (subject_of opened.whole) k map.empty bytes fault) (sym is.keys_are) none in
+    record {
+      front = is.front;
+      begins = record { is_front = is.is_front; rest = is.rest; is = is.begins };
+      query = opened.plan.plan;
+      ask_for = subst (λ (s : Subject). AskFor s.words opened.plan.plan) (sym is.subject_is) is.is_plan.ask_for;
+      shape = shape;
+      is_shape = subst (λ (s : Subject). IsShapeOf (bound_plan (header_of opened.plan.plan.reading s) opened.plan.plan.plan) shape) (sym is.subject_is) (shape_of (subject_of opened.whole) opened.plan shape is.is_plan of);
+      none = subst (λ (s : Subject). AreNoParts shape s is.front.keys map.empty bytes fault) (sym is.subject_is) by_keys;
+    }

@@ -1,7 +1,7 @@
 -- What the bytes of an input are, and what they come to.
-use Rattle.std.specs.Prelude.{◌≡◌, ◌<◌, ℕ, List, All, None, length}
+use Rattle.std.specs.Prelude.{◌≡◌, ◌<◌, ◌++◌, [], ℕ, List, All, None, length}
 use Rattle.std.specs.FinMap as map
-use Rattle.csv_rows.specs.Records.{records_of}
+use Rattle.csv_rows.specs.Readings.{records_in}
 use Rattle.par_model.specs.Named.{bound_plan, missing_name}
 use Rattle.par_model.specs.Plan.{Plan}
 use Rattle.partial_agg.specs.Groups.{GroupsByKey}
@@ -9,7 +9,8 @@ use Rattle.plan_spec.specs.Query.{Query}
 use Rattle.state_combine.specs.Combined.{IsCombined}
 use Rattle.partial_agg.specs.Listed.{listed}
 use Rattle.result_text.specs.Text.{IsTextOf}
-use Rattle.state_head.specs.Head.{Subject, subject_of}
+use Rattle.state_front.specs.Front.{IsFront, front_bytes}
+use Rattle.state_head.specs.Head.{Preface, Subject, subject_of}
 use Rattle.state_head.specs.Words.{Keys, keys_of}
 use Rattle.state_load.specs.Loading.{AreParts, files_bytes, stretches_of, sum_of}
 use Rattle.state_plan.specs.FilePlans.{AskFor, IsPlanOf, header_of}
@@ -21,6 +22,7 @@ use Rattle.state_whole.specs.Files.{StateFile, file_bytes}
 use Rattle.state_whole.specs.Sums.{AreSummed}
 use Rattle.state_whole.specs.declared.adding.Shape.{Shape}
 use Rattle.state_query.specs.declared.input.Loaded.{Loaded}
+use Rattle.state_query.specs.declared.input.Opened.{Opened}
 
 -- files of one query: what all of them say alike, the query, what their tuples are of, the files
 pub record Input : Type 0 where
@@ -32,7 +34,7 @@ pub record Input : Type 0 where
 
 -- the plan over the columns of the header
 abbrev pub bound_of : Input → Plan
-bound_of i = bound_plan (header_of i.subject) i.query.plan
+bound_of i = bound_plan (header_of i.query.reading i.subject) i.query.plan
 
 -- the groups of all files, added up
 abbrev pub groups_in : Input → GroupsByKey
@@ -42,8 +44,8 @@ groups_in i = sum_of i.shape map.empty i.files
 pub record IsInput (bytes : List ℕ) (i : Input) : Type 0 where
   pub some : 0 < length i.files
   pub ask_for : AskFor i.subject.words i.query
-  pub one : length (records_of i.subject.header) ≡ 1
-  pub whole : missing_name (header_of i.subject) i.query.plan ≡ None
+  pub one : length (records_in i.query.reading i.subject.header) ≡ 1
+  pub whole : missing_name (header_of i.query.reading i.subject) i.query.plan ≡ None
   pub is_shape : IsShapeOf (bound_of i) i.shape
   pub are : AreParts i.shape i.subject i.keys i.files
   pub is : bytes ≡ files_bytes i.shape i.files
@@ -83,12 +85,28 @@ pub record HasRefusedRow (i : Input) (row : FirstRefused) : Type 0 where
   pub is_whole : IsWhole i cover
   pub first : IsFirstRefused cover row
 
--- the sum of the files that some bytes are
-pub record IsLoaded (bytes : List ℕ) (loaded : Loaded) : Type 0 where
+-- bytes that begin with the front of a file that has this plan
+pub record IsOpened (bytes : List ℕ) (opened : Opened) : Type 0 where
+  pub front : Preface
+  pub is_front : IsFront front
+  pub rest : List ℕ
+  pub begins : bytes ≡ front_bytes front ++ rest
+  pub subject_is : front.subject ≡ subject_of opened.whole
+  pub keys_are : front.keys ≡ keys_of opened.range
+  pub is_plan : IsPlanOf (subject_of opened.whole) opened.plan
+
+-- a range without ends
+abbrev pub all_keys : Keys
+all_keys = record { low = []; high = [] }
+
+-- the sum of the files that some bytes are: those of their groups that lie in a range
+pub record IsLoaded (within : Keys) (bytes : List ℕ) (loaded : Loaded) : Type 0 where
   pub input : Input
   pub is_input : IsInput bytes input
   pub subject_is : subject_of loaded.whole ≡ input.subject
   pub keys_are : keys_of loaded.range ≡ input.keys
   pub is_plan : IsPlanOf input.subject loaded.plan
   pub query_is : loaded.plan.plan ≡ input.query
+  pub columns_are : loaded.sum.kept.columns ≡ length (bound_of input).groups
+  pub within_is : keys_of loaded.sum.kept.range ≡ within
   pub sum_is : AreSummed (groups_in input) (stretches_of input.files) loaded.sum

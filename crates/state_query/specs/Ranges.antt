@@ -7,6 +7,7 @@ use Rattle.state_range.specs.declared.bounds.BoundFault.TheVariants as fault
 use Rattle.state_total.specs.Total.{IsCounted}
 use Rattle.state_query.specs.Inputs.{Input, IsInput, IsWhole, bound_of, groups_in}
 use Rattle.state_query.specs.Whys.{IsStopOf}
+use Rattle.state_query.specs.declared.range.Ends.{Ends}
 use Rattle.state_query.specs.declared.stop.Stop.{Stop}
 use Rattle.state_query.specs.declared.stop.Stop.TheVariants as stop
 
@@ -19,6 +20,15 @@ IsEndOf columns (byte ∷ word) key = IsBoundOf columns (byte ∷ word) key
 abbrev pub HasNoEnd : ℕ → List ℕ → Type 0
 HasNoEnd columns [] = ⊥
 HasNoEnd columns (byte ∷ word) = IsNoBound columns (byte ∷ word) fault.NoKey
+
+-- keys of the ends that two words name
+pub record AreEnds (columns : ℕ) (above below : List ℕ) (ends : Ends) : Type 0 where
+  pub low : IsEndOf columns above ends.low.items
+  pub high : IsEndOf columns below ends.high.items
+
+-- why there are none: memory ran out, or a word names no key
+abbrev pub IsNoEnds : ℕ → List ℕ → List ℕ → Stop → Type 0
+IsNoEnds columns above below why = (why ≡ stop.Memory) ⊎ ((why ≡ stop.NoKey) × (HasNoEnd columns above ⊎ HasNoEnd columns below))
 
 -- how many columns the query of an input groups by
 abbrev pub columns_in : Input → ℕ

@@ -47,7 +47,7 @@ pub record GoesWrong (bytes : List ℕ) (fault : LoadFault) : Type 0 where
   pub query : Query
   pub ask_for : AskFor front.subject.words query
   pub shape : Shape
-  pub is_shape : IsShapeOf (bound_plan (header_of front.subject) query.plan) shape
+  pub is_shape : IsShapeOf (bound_plan (header_of query.reading front.subject) query.plan) shape
   pub none : AreNoParts shape front.subject front.keys map.empty bytes fault
 
 -- the file of this number is none of those that go together

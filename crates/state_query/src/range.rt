@@ -1,11 +1,13 @@
 //! One range of the table that the files of an input come to.
 
-ghost use Rattle.std.specs.Prelude.{◌≡◌, ◌⊎◌, IfErr, IfOk};
+ghost use Rattle.std.specs.Prelude.{◌≡◌, ◌⊎◌, IfErr, IfOk, length};
 ghost use Rattle.result_text.specs.Pieces.{joined};
-ghost use Rattle.state_query.specs.Ranges.{HasNoEnd, IsEndOf, IsRangeStop, IsRangeText};
+ghost use Rattle.state_query.specs.Inputs.{IsOpened};
+ghost use Rattle.state_query.specs.Ranges.{AreEnds, HasNoEnd, IsEndOf, IsNoEnds, IsRangeStop, IsRangeText};
+ghost use Rattle.state_query.specs.Whys.{IsStopOf};
 ghost use Rattle.state_query.specs.declared.stop.Stop.TheVariants as stop;
 
-use crate::input::{Loaded, load};
+use crate::input::{Loaded, Opened, load_within, open};
 use crate::stop::Stop;
 use state_finalize::{Finished, finish_range};
 use state_head::KeyRange;
@@ -20,7 +22,15 @@ pub struct RangeWords<'a> {
     pub below: &'a [u8],
 }
 
-/// The text of a range of the table that the files of an input come to, in pieces, one after another.
+/// The keys of the ends of a range, each empty if it has no such end.
+#[derive(Drop)]
+struct Ends {
+    low: Vec<u8>,
+    high: Vec<u8>,
+}
+
+/// The text of a range of the table that the files of an input come to, in pieces, one after another. Only the groups of the range take
+/// memory.
 pub(crate) fn range_pieces(
     alloc: Global,
     words: RangeWords<'_>,
@@ -29,25 +39,76 @@ pub(crate) fn range_pieces(
     ensures table { IfOk result (λ pieces. IsRangeText words.entry.above.now words.entry.below.now bytes.now (joined pieces.items)) }
     ensures why { IfErr result (IsRangeStop words.entry.above.now words.entry.below.now bytes.now) }
 {
-    let loaded = load(alloc, bytes)?;
+    let opened = open(alloc, bytes)?;
+    let columns = opened.plan.bound.group_columns().len() as u32;
+    match ends_of(alloc, words, columns) {
+        Ok(ends) => pieces_between(alloc, words, bytes, opened, &ends),
+        Err(why) => Err(stop_without_ends(alloc, words, bytes, opened, why)),
+    }
+}
+
+/// The text of the range between these ends.
+fn pieces_between<'a>(
+    alloc: Global,
+    words: RangeWords<'_>,
+    bytes: &'a [u8],
+    opened: Opened<'a>,
+    ends: &Ends,
+) -> Result<Vec<Vec<u8>>, Stop>
+    requires opened { IsOpened bytes.now opened }
+    requires ends { AreEnds (length opened.plan.bound.groups) words.above.now words.below.now ends.now }
+    ensures table { IfOk result (λ pieces. IsRangeText words.entry.above.now words.entry.below.now bytes.now (joined pieces.items)) }
+    ensures why { IfErr result (IsStopOf bytes.now) }
+{
+    let range = KeyRange {
+        low: ends.low.as_slice(),
+        high: ends.high.as_slice(),
+    };
+    let loaded = load_within(alloc, bytes, opened, range)?;
     let Loaded {
         whole,
         plan,
         sum,
         ..
     } = loaded;
-    let columns = plan.bound.group_columns().len() as u32;
-    let low = end_key(alloc, words.above, columns)?;
-    let high = end_key(alloc, words.below, columns)?;
-    let range = KeyRange {
-        low: low.as_slice(),
-        high: high.as_slice(),
-    };
-    match finish_range(alloc, &plan.plan, &plan.bound, whole.sources, sum, range) {
+    match finish_range(alloc, &plan.plan, &plan.bound, whole.sources, sum) {
         Ok(Finished::Table(pieces)) => Ok(pieces),
         Ok(Finished::Refused(row)) => Err(Stop::of_row(alloc, &plan.plan, row)),
         Err(why) => Err(Stop::of_finish(why)),
     }
+}
+
+/// Why there is no text if the words name no range: the files' own fault if they have one, else that of the words. Files are read before
+/// words are blamed; none of their groups is kept.
+fn stop_without_ends<'a>(
+    alloc: Global,
+    words: RangeWords<'_>,
+    bytes: &'a [u8],
+    opened: Opened<'a>,
+    why: Stop,
+) -> Stop
+    requires opened { IsOpened bytes.now opened }
+    requires why { IsNoEnds (length opened.plan.bound.groups) words.above.now words.below.now why }
+    ensures { IsRangeStop words.entry.above.now words.entry.below.now bytes.now result }
+{
+    let none = KeyRange {
+        low: b"-",
+        high: b"-",
+    };
+    match load_within(alloc, bytes, opened, none) {
+        Ok(_) => why,
+        Err(stop) => stop,
+    }
+}
+
+/// The keys of the ends of the range that some words name.
+fn ends_of(alloc: Global, words: RangeWords<'_>, columns: u32) -> Result<Ends, Stop>
+    ensures ends { IfOk result (AreEnds columns words.entry.above.now words.entry.below.now) }
+    ensures why { IfErr result (IsNoEnds columns words.entry.above.now words.entry.below.now) }
+{
+    let low = end_key(alloc, words.above, columns)?;
+    let high = end_key(alloc, words.below, columns)?;
+    Ok(Ends { low, high })
 }
 
 /// The key of an end of a range, or no bytes if it has no such end.

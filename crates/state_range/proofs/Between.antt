@@ -8,7 +8,8 @@ use Rattle.par_model.specs.Table.{columns_cmp}
 use Rattle.result_text.specs.KeyColumns.{columns_in}
 use Rattle.result_text.proofs.Columns.{columns_total}
 use Rattle.state_head.specs.Words.{Keys}
-use Rattle.state_range.specs.Ranges.{RiseFrom, is_before, is_from, is_open, is_within, ranges_from}
+use Rattle.state_order.specs.Ranges.{is_before, is_from, is_open, is_within}
+use Rattle.state_range.specs.Ranges.{RiseFrom, ranges_from}
 
 -- ---- the order of lines
 

@@ -1,4 +1,3 @@
 mod Between
-pub mod Kept
 mod Lines
 mod Texts

@@ -12,7 +12,8 @@ use Rattle.result_text.specs.PartTexts.{IsPartText}
 use Rattle.result_text.specs.Text.{AreLinesOf}
 use Rattle.result_text.proofs.PartTexts.{parts_answer}
 use Rattle.state_head.specs.Words.{Keys}
-use Rattle.state_range.specs.Ranges.{AreWithin, IsTextWithin, RangesAnswer, RiseFrom, header_before, is_open, ranges_from}
+use Rattle.state_order.specs.Ranges.{AreWithin, is_open}
+use Rattle.state_range.specs.Ranges.{IsTextWithin, RangesAnswer, RiseFrom, header_before, ranges_from}
 use Rattle.state_range.proofs.Between.{in_part, part_low, part_of, rises}
 
 module _ (names : NamedPlan) (plan : Plan) (m : GroupsByKey) where

@@ -1,46 +1,21 @@
 -- A table in ranges of keys.
-use Rattle.std.specs.Prelude.{◌≡◌, ◌<◌, ◌++◌, ◌&&◌, ◌||◌, ◌^◌, ◌∷◌, [], ℕ, All, Bool, true, false, List, None, if◌then◌else◌, length, not}
-use Rattle.std.specs.FinMap as map
+use Rattle.std.specs.Prelude.{◌≡◌, ◌<◌, ◌++◌, ◌||◌, ◌^◌, ◌∷◌, [], ℕ, All, true, false, List, length}
 use Rattle.std.specs.List.{AllZip, concat}
-use Rattle.std.specs.Ordering.{is_lt}
 use Rattle.csv.specs.Writing.{default_writer, row_text}
 use Rattle.csv_rows.specs.Records.{records_of}
 use Rattle.par_model.specs.Key.{encoded}
 use Rattle.par_model.specs.Named.{NamedPlan, bound_plan}
 use Rattle.par_model.specs.Outcome.{IsAnswer}
 use Rattle.par_model.specs.Plan.{Plan}
-use Rattle.par_model.specs.Table.{columns_cmp, table_header}
+use Rattle.par_model.specs.Table.{table_header}
 use Rattle.partial_agg.specs.Groups.{AreGroups, GroupsByKey}
 use Rattle.partial_agg.specs.Listed.{listed}
 use Rattle.partial_agg.specs.declared.groups.Group.{Group}
-use Rattle.result_text.specs.KeyColumns.{columns_in}
 use Rattle.result_text.specs.Text.{AreLinesOf}
 use Rattle.state_head.specs.Words.{Keys}
+use Rattle.state_order.specs.Ranges.{AreWithin, is_before, is_open}
 use Rattle.state_range.specs.declared.bounds.BoundFault.{BoundFault}
 use Rattle.state_range.specs.declared.bounds.BoundFault.TheVariants as fault
-
--- whether the line of a key comes before that of another, by this many columns
-abbrev pub is_before : ℕ → List ℕ → List ℕ → Bool
-is_before columns a b = is_lt (columns_cmp (columns_in columns a) (columns_in columns b))
-
--- whether a range has no such end
-abbrev pub is_open : List ℕ → Bool
-is_open [] = true
-is_open (byte ∷ key) = false
-
--- whether a key lies in a range: from its low end on, and before its high end
-abbrev pub is_from : ℕ → List ℕ → List ℕ → Bool
-is_from columns low key = is_open low || not (is_before columns key low)
-
-abbrev pub is_below : ℕ → List ℕ → List ℕ → Bool
-is_below columns high key = is_open high || is_before columns key high
-
-abbrev pub is_within : ℕ → Keys → List ℕ → Bool
-is_within columns range key = is_from columns range.low key && is_below columns range.high key
-
--- a map has the groups of another whose keys lie in a range, and no others
-pub record AreWithin (columns : ℕ) (range : Keys) (m within : GroupsByKey) : Type 0 where
-  pub each : (key : List ℕ) → map.get within key ≡ (if is_within columns range key then map.get m key else None)
 
 -- the header, before the lines of a range with no low end
 abbrev pub header_before : NamedPlan → List ℕ → List ℕ

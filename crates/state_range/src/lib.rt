@@ -6,9 +6,7 @@
 mod bounds;
 mod laws;
 mod text;
-mod within;
 
 pub use bounds::{BoundFault, bound_key};
 pub use laws::ranges_answer;
 pub use text::text_within;
-pub use within::groups_within;

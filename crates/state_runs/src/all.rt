@@ -8,13 +8,10 @@ ghost use Rattle.partial_agg.specs.Groups.{AreGroups};
 ghost use Rattle.partial_agg.specs.Listed.{listed};
 ghost use Rattle.result_text.specs.Printable.{IsKeyOf};
 ghost use Rattle.row_blocks.specs.Blocks.{Table};
-ghost use Rattle.state_blocks.specs.Blocks.{Group};
-ghost use Rattle.state_front.specs.Front.{front_bytes};
 ghost use Rattle.state_head.specs.Head.{head_bytes, preface_of};
-ghost use Rattle.state_save.specs.Saving.{AreTuplesOf, IsFileOf};
+ghost use Rattle.state_save.specs.Saving.{DoNotFit, IsFileOf};
 ghost use Rattle.state_whole.specs.Adding.{IsShape};
 ghost use Rattle.state_whole.specs.Files.{StateFile, file_bytes};
-ghost use Rattle.state_writer.specs.Writing.{Fit};
 ghost use Rattle.state_writer.specs.declared.writer.WriteError.TheVariants as variant;
 
 use crate::saving::push_apart_file;
@@ -94,8 +91,7 @@ pub fn push_all<R: Threads + Sync>(
     ensures short { OnOk result (length (head_bytes (preface_of head.now)) ≤ 2 ^ 28) }
 
     // When the error comes that is not of memory: the head or what comes after it is too long for a file.
-    ensures long { result ≡ Err variant.Long → length (head_bytes (preface_of head.now)) ≤ 2 ^ 28
-        → (tuples : List Group) × AreTuplesOf shape.now (listed all) tuples × (Fit shape.now.kinds.now (length (front_bytes (preface_of head.now))) tuples → ⊥) }
+    ensures long { result ≡ Err variant.Long → DoNotFit shape.now (preface_of head.now) (listed all) }
 {
     let AllGroups { maps } = all;
     match only_map(maps) {

@@ -4,10 +4,9 @@ ghost use Rattle.std.specs.Prelude.{◌≡◌, ◌<◌, ◌≤◌, ◌^◌, ◌+
 ghost use Rattle.line_runs.specs.Entries.{all_entries};
 ghost use Rattle.result_text.specs.Printable.{IsKeyOf};
 ghost use Rattle.state_blocks.specs.Blocks.{Group};
-ghost use Rattle.state_front.specs.Front.{front_bytes};
 ghost use Rattle.state_head.specs.Head.{head_bytes, preface_of};
 ghost use Rattle.state_runs.specs.Runs.{AreApart, IsRunOf, entry_of, groups_in};
-ghost use Rattle.state_save.specs.Saving.{AreTuplesOf, AreWritten, IsFileOf};
+ghost use Rattle.state_save.specs.Saving.{AreTuplesOf, AreWritten, DoNotFit, IsFileOf};
 ghost use Rattle.state_whole.specs.Adding.{IsShape};
 ghost use Rattle.state_whole.specs.Files.{StateFile, file_bytes};
 ghost use Rattle.state_writer.specs.Writing.{Fit, FitInBlocks, Goes, HasTaken};
@@ -43,8 +42,7 @@ pub(crate) fn push_apart_file<R: Threads + Sync>(
     ensures short { OnOk result (length (head_bytes (preface_of head.now)) ≤ 2 ^ 28) }
 
     // When the error comes that is not of memory: the head or what comes after it is too long for a file.
-    ensures long { result ≡ Err variant.Long → length (head_bytes (preface_of head.now)) ≤ 2 ^ 28
-        → (tuples : List Group) × AreTuplesOf shape.now (groups_in maps.items) tuples × (Fit shape.now.kinds.now (length (front_bytes (preface_of head.now))) tuples → ⊥) }
+    ensures long { result ≡ Err variant.Long → DoNotFit shape.now (preface_of head.now) (groups_in maps.items) }
 {
     let from = out.len();
     match push_front(alloc, out, head) {

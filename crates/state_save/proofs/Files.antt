@@ -19,7 +19,7 @@ use Rattle.state_writer.specs.Writing.{blocks_of}
 use Rattle.state_writer.proofs.Laws.{blocks_have, body_is}
 
 -- all tuples are such as rows can give, if each group is told by one
-all_tuples : (shape : Shape) (groups : List MapGroup) (tuples : List Group) → IsShape shape → AreTuplesOf shape groups tuples → All (IsTold shape) groups → All (IsTuple shape.columns shape.kinds.now) tuples
+pub all_tuples : (shape : Shape) (groups : List MapGroup) (tuples : List Group) → IsShape shape → AreTuplesOf shape groups tuples → All (IsTold shape) groups → All (IsTuple shape.columns shape.kinds.now) tuples
 all_tuples shape groups tuples is are told =
     All-permutation (IsTuple shape.columns shape.kinds.now) (map (tuple_of shape) groups) tuples are.same
     (All-map (IsTuple shape.columns shape.kinds.now) (tuple_of shape) groups (λ k d lt. is_tuple shape (get_or groups k d) is (told k d lt)))

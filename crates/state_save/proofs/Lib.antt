@@ -1,4 +1,5 @@
 pub mod Files
+mod Fitting
 pub mod Pushed
 pub mod Rising
 mod Slots

@@ -1,20 +1,20 @@
 -- What a file has of the groups of a map.
-use Rattle.std.specs.Prelude.{◌≡◌, ◌<◌, [], ℕ, List, All, length, map}
+use Rattle.std.specs.Prelude.{◌≡◌, ◌<◌, ◌≤◌, ◌⊎◌, ◌^◌, [], ℕ, List, All, length, map}
 use Rattle.std.specs.List.Sorted.{IsPermutation}
 use Rattle.partial_agg.specs.declared.groups.Group.{Group as MapGroup}
 use Rattle.result_text.specs.GroupOrder.{group_of}
 use Rattle.result_text.specs.declared.order.GroupRef.{GroupRef}
 use Rattle.state_blocks.specs.Blocks.{Group, IsTuple}
-use Rattle.state_body.specs.Body.{IsBody}
+use Rattle.state_body.specs.Body.{IsBody, foot_bytes}
 use Rattle.state_front.specs.Front.{IsFront, front_bytes}
-use Rattle.state_head.specs.Head.{Preface}
+use Rattle.state_head.specs.Head.{Preface, head_bytes}
 use Rattle.state_lanes.specs.Lanes.{lane_slots}
 use Rattle.state_order.specs.Order.{IsIn, Rise}
-use Rattle.state_whole.specs.Adding.{key_of, state_of}
+use Rattle.state_whole.specs.Adding.{IsShape, key_of, state_of}
 use Rattle.state_whole.specs.Files.{IsStateFile, StateFile, tuples_in}
 use Rattle.state_whole.specs.Sums.{HasRefused}
 use Rattle.state_whole.specs.declared.adding.Shape.{Shape}
-use Rattle.state_writer.specs.Writing.{Ends}
+use Rattle.state_writer.specs.Writing.{Ends, Fit, blocks_of}
 
 -- a group of a map as a file has it, with a slot for each lane
 abbrev pub tuple_of : Shape → MapGroup → Group
@@ -57,3 +57,27 @@ pub record CanBeRead (shape : Shape) (preface : Preface) (groups : List MapGroup
 -- what is saved so is read
 abbrev pub SavedIsRead : Type 0
 SavedIsRead = (shape : Shape) (preface : Preface) (groups : List MapGroup) (f : StateFile) → CanBeRead shape preface groups → IsFileOf shape preface groups f → IsStateFile shape.columns shape.kinds.now f
+
+-- ---- a file that is too long
+
+-- the head is too long for a file
+abbrev pub HasLongHead : Preface → Type 0
+HasLongHead preface = 2 ^ 28 < length (head_bytes preface)
+
+-- the foot of a file of these groups is: it has the place and the first key of each block
+pub record HasLongFoot (shape : Shape) (preface : Preface) (groups : List MapGroup) : Type 0 where
+  pub tuples : List Group
+  pub are : AreTuplesOf shape groups tuples
+  pub long : 2 ^ 28 < length (foot_bytes shape.kinds.now (length (front_bytes preface)) (blocks_of shape.kinds.now tuples))
+
+-- a file of these groups is too long, since its head or its foot is
+abbrev pub IsLongFile : Shape → Preface → List MapGroup → Type 0
+IsLongFile shape preface groups = HasLongHead preface ⊎ HasLongFoot shape preface groups
+
+-- groups that do not fit behind a head of at most 2^28 bytes
+abbrev pub DoNotFit : Shape → Preface → List MapGroup → Type 0
+DoNotFit shape preface groups = length (head_bytes preface) ≤ 2 ^ 28 → (tuples : List Group) × AreTuplesOf shape groups tuples × (Fit shape.kinds.now (length (front_bytes preface)) tuples → ⊥)
+
+-- at most 2^50 groups that rows can give fit into blocks, so only a head or a foot can be too long
+abbrev pub LongIsKnown : Type 0
+LongIsKnown = (shape : Shape) (preface : Preface) (groups : List MapGroup) → IsShape shape → All (IsTold shape) groups → length groups ≤ 2 ^ 50 → DoNotFit shape preface groups → IsLongFile shape preface groups

@@ -5,5 +5,5 @@
 mod laws;
 mod saving;
 
-pub use laws::saved_is_read;
+pub use laws::{long_is_known, saved_is_read};
 pub use saving::{push_file, push_groups};

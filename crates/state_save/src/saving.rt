@@ -8,9 +8,8 @@ ghost use Rattle.partial_agg.specs.declared.groups.Group.{Group as MapGroup};
 ghost use Rattle.result_text.specs.GroupOrder.{group_of};
 ghost use Rattle.result_text.specs.Printable.{IsKeyOf};
 ghost use Rattle.state_blocks.specs.Blocks.{Group};
-ghost use Rattle.state_front.specs.Front.{front_bytes};
 ghost use Rattle.state_head.specs.Head.{head_bytes, preface_of};
-ghost use Rattle.state_save.specs.Saving.{AreTuplesOf, AreWritten, IsFileOf, tuple_of, tuples_at};
+ghost use Rattle.state_save.specs.Saving.{AreTuplesOf, AreWritten, DoNotFit, IsFileOf, tuple_of, tuples_at};
 ghost use Rattle.state_whole.specs.Adding.{IsShape};
 ghost use Rattle.state_whole.specs.Files.{StateFile, file_bytes};
 ghost use Rattle.state_writer.specs.Writing.{Fit, FitInBlocks, Goes, HasTaken};
@@ -41,8 +40,7 @@ pub fn push_file(
     ensures short { OnOk result (length (head_bytes (preface_of head.now)) ≤ 2 ^ 28) }
 
     // When the error comes that is not of memory: the head or what comes after it is too long for a file.
-    ensures long { result ≡ Err variant.Long → length (head_bytes (preface_of head.now)) ≤ 2 ^ 28
-        → (tuples : List Group) × AreTuplesOf shape.now groups.now tuples × (Fit shape.now.kinds.now (length (front_bytes (preface_of head.now))) tuples → ⊥) }
+    ensures long { result ≡ Err variant.Long → DoNotFit shape.now (preface_of head.now) groups.now }
 {
     let from = out.len();
     match push_front(alloc, out, head) {

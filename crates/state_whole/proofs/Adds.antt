@@ -4,16 +4,17 @@ use Rattle.std.specs.List.{flat_map}
 use Rattle.std.proofs.lemmas.List.{map-append}
 use Rattle.std.proofs.lemmas.List.Elements.{All-cons, All-head, All-nil, All-push, All-tail}
 use Rattle.std.proofs.lemmas.List.Sums.{fold_push}
-use Rattle.partial_agg.specs.Groups.{GroupsByKey, added}
+use Rattle.partial_agg.specs.Groups.{GroupsByKey}
 use Rattle.state_blocks.specs.Blocks.{Group, IsTuple, block_bytes, tuple_bytes}
 use Rattle.state_blocks.proofs.Tuples.{tuple_some}
 use Rattle.state_head.specs.Words.{Keys}
 use Rattle.state_order.specs.Order.{HasKeys}
 use Rattle.state_order.specs.declared.order.KeyOrder.{KeyOrder}
-use Rattle.state_whole.specs.Adding.{CannotAdd, HasAdded, IsNoKey, IsNoMore, key_of, state_of, with_group}
+use Rattle.state_whole.specs.Adding.{CannotAdd, HasAdded, IsNoKey, IsNoMore, kept_with, key_of, state_of}
 use Rattle.state_whole.specs.declared.adding.FileCount.{FileCount}
 use Rattle.state_whole.specs.declared.adding.GroupFault.{GroupFault}
 use Rattle.state_whole.specs.declared.adding.GroupFault.TheVariants as fault
+use Rattle.state_whole.specs.declared.adding.Kept.{Kept}
 use Rattle.state_whole.specs.declared.adding.Shape.{Shape}
 
 -- ---- a group more
@@ -24,12 +25,12 @@ keep a b (g ∷ groups) le all =
     let here = All-head (λ (h : Group). h.rows ≤ a) g groups all in
     All-cons (λ (h : Group). h.rows ≤ b) g groups (omega (arith, here, le)) (keep a b groups le (All-tail (λ (h : Group). h.rows ≤ a) g groups all))
 
-pub added_more : (shape : Shape) (range : Keys) (start : GroupsByKey) (groups : List Group) (g : Group) (m n : GroupsByKey) (order next : KeyOrder) (count more : FileCount) → HasAdded shape range start groups m order count
-    → n ≡ added m g.key (state_of shape g) → HasKeys shape.columns range (map key_of groups ++ g.key ∷ []) next → more.groups ≡ count.groups + 1 → count.most ≤ more.most → g.rows ≤ more.most → HasAdded shape range start (groups ++ g ∷ []) n next more
-added_more shape range start groups g m n order next count more is sum keys many most rows =
+pub added_more : (shape : Shape) (kept : Kept) (range : Keys) (start : GroupsByKey) (groups : List Group) (g : Group) (m n : GroupsByKey) (order next : KeyOrder) (count more : FileCount) → HasAdded shape kept range start groups m order count
+    → n ≡ kept_with kept m g.key (state_of shape g) → HasKeys shape.columns range (map key_of groups ++ g.key ∷ []) next → more.groups ≡ count.groups + 1 → count.most ≤ more.most → g.rows ≤ more.most → HasAdded shape kept range start (groups ++ g ∷ []) n next more
+added_more shape kept range start groups g m n order next count more is sum keys many most rows =
     let before = is.many in
     record {
-      sum = sum ∙ ap (λ (x : GroupsByKey). added x g.key (state_of shape g)) is.sum ∙ sym (fold_push (with_group shape) start groups g);
+      sum = sum ∙ ap (λ (x : GroupsByKey). kept_with kept x g.key (state_of shape g)) is.sum ∙ sym (fold_push (λ so_far h. kept_with kept so_far h.key (state_of shape h)) start groups g);
       keys = subst (λ (ks : List (List ℕ)). HasKeys shape.columns range ks next) (sym (map-append key_of groups (g ∷ []))) keys;
       many = omega (arith, many, before, length-append groups (g ∷ []));
       most = All-push (λ (h : Group). h.rows ≤ more.most) groups g (keep count.most more.most groups most is.most) rows;
@@ -45,30 +46,30 @@ key_none shape range groups g n many (fault.Range number) none = (none.0 ∙ man
 -- ---- a block
 
 -- some groups of a block are added, and these bytes are left of it
-pub record AreBegun (shape : Shape) (range : Keys) (start : GroupsByKey) (groups block : List Group) (rest : List ℕ) (m : GroupsByKey) (order : KeyOrder) (count : FileCount) : Type 0 where
+pub record AreBegun (shape : Shape) (kept : Kept) (range : Keys) (start : GroupsByKey) (groups block : List Group) (rest : List ℕ) (m : GroupsByKey) (order : KeyOrder) (count : FileCount) : Type 0 where
   pub front : List Group
   pub tail : List Group
   pub is : block ≡ front ++ tail
   pub each : All (IsTuple shape.columns shape.kinds.now) tail
   pub left : rest ≡ block_bytes shape.kinds.now tail
-  pub has : HasAdded shape range start (groups ++ front) m order count
+  pub has : HasAdded shape kept range start (groups ++ front) m order count
 
 -- so far, of whatever block these bytes are
-pub record IsAddedTo (shape : Shape) (part rest : List ℕ) (m0 : GroupsByKey) (order0 : KeyOrder) (count0 : FileCount) (m : GroupsByKey) (order : KeyOrder) (count : FileCount) (at : ℕ) : Type 0 where
-  pub begun : (start : GroupsByKey) (range : Keys) (groups block : List Group) → HasAdded shape range start groups m0 order0 count0 → All (IsTuple shape.columns shape.kinds.now) block → part ≡ block_bytes shape.kinds.now block
-      → AreBegun shape range start groups block rest m order count
+pub record IsAddedTo (shape : Shape) (kept : Kept) (part rest : List ℕ) (m0 : GroupsByKey) (order0 : KeyOrder) (count0 : FileCount) (m : GroupsByKey) (order : KeyOrder) (count : FileCount) (at : ℕ) : Type 0 where
+  pub begun : (start : GroupsByKey) (range : Keys) (groups block : List Group) → HasAdded shape kept range start groups m0 order0 count0 → All (IsTuple shape.columns shape.kinds.now) block → part ≡ block_bytes shape.kinds.now block
+      → AreBegun shape kept range start groups block rest m order count
   pub room : at + length rest ≤ length part
   pub few : count.groups + length rest ≤ count0.groups + length part
 
-pub none_added : (shape : Shape) (part : List ℕ) (m : GroupsByKey) (order : KeyOrder) (count : FileCount) → IsAddedTo shape part part m order count m order count 0
-none_added shape part m order count = record {
+pub none_added : (shape : Shape) (kept : Kept) (part : List ℕ) (m : GroupsByKey) (order : KeyOrder) (count : FileCount) → IsAddedTo shape kept part part m order count m order count 0
+none_added shape kept part m order count = record {
   begun = λ start range groups block has all e. record {
     front = [];
     tail = block;
     is = refl;
     each = all;
     left = e;
-    has = subst (λ (gs : List Group). HasAdded shape range start gs m order count) (sym (append-nil groups)) has;
+    has = subst (λ (gs : List Group). HasAdded shape kept range start gs m order count) (sym (append-nil groups)) has;
   };
   room = omega arith;
   few = omega arith;
@@ -93,18 +94,18 @@ no_bytes_left kinds (g ∷ later) rest e none =
     let some = tuple_some kinds g in
     absurd (omega (arith, some, none, ap length e, length-append (tuple_bytes kinds g) (flat_map (tuple_bytes kinds) later)))
 
-pub one_added : (shape : Shape) (part rest after : List ℕ) (m0 m n : GroupsByKey) (order0 order next : KeyOrder) (count0 count more : FileCount) (at : ℕ) → IsAddedTo shape part rest m0 order0 count0 m order count at → 0 < length rest → length after < length rest
+pub one_added : (shape : Shape) (kept : Kept) (part rest after : List ℕ) (m0 m n : GroupsByKey) (order0 order next : KeyOrder) (count0 count more : FileCount) (at : ℕ) → IsAddedTo shape kept part rest m0 order0 count0 m order count at → 0 < length rest → length after < length rest
     → more.groups ≤ count.groups + 1
-    → ((start : GroupsByKey) (range : Keys) (groups : List Group) (g : Group) (r : List ℕ) → HasAdded shape range start groups m order count → IsTuple shape.columns shape.kinds.now g → rest ≡ tuple_bytes shape.kinds.now g ++ r
-    → (after ≡ r) × HasAdded shape range start (groups ++ g ∷ []) n next more)
-    → IsAddedTo shape part after m0 order0 count0 n next more (at + 1)
-one_added shape part rest after m0 m n order0 order next count0 count more at is some shorter groups_more adds =
+    → ((start : GroupsByKey) (range : Keys) (groups : List Group) (g : Group) (r : List ℕ) → HasAdded shape kept range start groups m order count → IsTuple shape.columns shape.kinds.now g → rest ≡ tuple_bytes shape.kinds.now g ++ r
+    → (after ≡ r) × HasAdded shape kept range start (groups ++ g ∷ []) n next more)
+    → IsAddedTo shape kept part after m0 order0 count0 n next more (at + 1)
+one_added shape kept part rest after m0 m n order0 order next count0 count more at is some shorter groups_more adds =
     let room = is.room in
     let few = is.few in
     record { begun = go; room = omega (arith, room, shorter); few = omega (arith, few, shorter, groups_more) }
   where
-    go : (start : GroupsByKey) (range : Keys) (groups block : List Group) → HasAdded shape range start groups m0 order0 count0 → All (IsTuple shape.columns shape.kinds.now) block → part ≡ block_bytes shape.kinds.now block
-        → AreBegun shape range start groups block after n next more
+    go : (start : GroupsByKey) (range : Keys) (groups block : List Group) → HasAdded shape kept range start groups m0 order0 count0 → All (IsTuple shape.columns shape.kinds.now) block → part ≡ block_bytes shape.kinds.now block
+        → AreBegun shape kept range start groups block after n next more
     go start range groups block has all e =
         let b = is.begun start range groups block has all e in
         let f = begins_with shape.kinds.now b.tail rest b.left some in
@@ -116,23 +117,23 @@ one_added shape part rest after m0 m n order0 order next count0 count more at is
           is = b.is ∙ ap (λ (gs : List Group). b.front ++ gs) f.is ∙ sym (append_assoc b.front (f.g ∷ []) f.later);
           each = All-tail (IsTuple shape.columns shape.kinds.now) f.g f.later each;
           left = did.0;
-          has = subst (λ (gs : List Group). HasAdded shape range start gs n next more) (append_assoc groups b.front (f.g ∷ [])) did.1;
+          has = subst (λ (gs : List Group). HasAdded shape kept range start gs n next more) (append_assoc groups b.front (f.g ∷ [])) did.1;
         }
 
 -- all groups of a block are added
-pub all_added : (shape : Shape) (part rest : List ℕ) (m0 m : GroupsByKey) (order0 order : KeyOrder) (count0 count : FileCount) (at : ℕ) → IsAddedTo shape part rest m0 order0 count0 m order count at → length rest ≡ 0
-    → (start : GroupsByKey) (range : Keys) (groups block : List Group) → HasAdded shape range start groups m0 order0 count0 → All (IsTuple shape.columns shape.kinds.now) block → part ≡ block_bytes shape.kinds.now block
-    → HasAdded shape range start (groups ++ block) m order count
-all_added shape part rest m0 m order0 order count0 count at is none start range groups block has all e =
+pub all_added : (shape : Shape) (kept : Kept) (part rest : List ℕ) (m0 m : GroupsByKey) (order0 order : KeyOrder) (count0 count : FileCount) (at : ℕ) → IsAddedTo shape kept part rest m0 order0 count0 m order count at → length rest ≡ 0
+    → (start : GroupsByKey) (range : Keys) (groups block : List Group) → HasAdded shape kept range start groups m0 order0 count0 → All (IsTuple shape.columns shape.kinds.now) block → part ≡ block_bytes shape.kinds.now block
+    → HasAdded shape kept range start (groups ++ block) m order count
+all_added shape kept part rest m0 m order0 order count0 count at is none start range groups block has all e =
     let b = is.begun start range groups block has all e in
     let whole = b.is ∙ ap (λ (gs : List Group). b.front ++ gs) (no_bytes_left shape.kinds.now b.tail rest b.left none) ∙ append-nil b.front in
-    subst (λ (gs : List Group). HasAdded shape range start (groups ++ gs) m order count) (sym whole) b.has
+    subst (λ (gs : List Group). HasAdded shape kept range start (groups ++ gs) m order count) (sym whole) b.has
 
 -- the next one is not
-pub not_added : (shape : Shape) (part rest : List ℕ) (m0 m : GroupsByKey) (order0 order : KeyOrder) (count0 count : FileCount) (at : ℕ) (why : GroupFault) → IsAddedTo shape part rest m0 order0 count0 m order count at → 0 < length rest
-    → ((start : GroupsByKey) (range : Keys) (groups : List Group) (g : Group) (r : List ℕ) → HasAdded shape range start groups m order count → IsTuple shape.columns shape.kinds.now g → rest ≡ tuple_bytes shape.kinds.now g ++ r → IsNoMore shape range groups g why)
-    → (start : GroupsByKey) (range : Keys) (groups block : List Group) → HasAdded shape range start groups m0 order0 count0 → All (IsTuple shape.columns shape.kinds.now) block → part ≡ block_bytes shape.kinds.now block → CannotAdd shape range (groups ++ block) why
-not_added shape part rest m0 m order0 order count0 count at why is some none start range groups block has all e =
+pub not_added : (shape : Shape) (kept : Kept) (part rest : List ℕ) (m0 m : GroupsByKey) (order0 order : KeyOrder) (count0 count : FileCount) (at : ℕ) (why : GroupFault) → IsAddedTo shape kept part rest m0 order0 count0 m order count at → 0 < length rest
+    → ((start : GroupsByKey) (range : Keys) (groups : List Group) (g : Group) (r : List ℕ) → HasAdded shape kept range start groups m order count → IsTuple shape.columns shape.kinds.now g → rest ≡ tuple_bytes shape.kinds.now g ++ r → IsNoMore shape range groups g why)
+    → (start : GroupsByKey) (range : Keys) (groups block : List Group) → HasAdded shape kept range start groups m0 order0 count0 → All (IsTuple shape.columns shape.kinds.now) block → part ≡ block_bytes shape.kinds.now block → CannotAdd shape range (groups ++ block) why
+not_added shape kept part rest m0 m order0 order count0 count at why is some none start range groups block has all e =
     let b = is.begun start range groups block has all e in
     let f = begins_with shape.kinds.now b.tail rest b.left some in
     let each = subst (λ (gs : List Group). All (IsTuple shape.columns shape.kinds.now) gs) f.is b.each in

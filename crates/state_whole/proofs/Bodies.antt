@@ -22,17 +22,19 @@ use Rattle.partial_agg.proofs.Entries.{All-found, Contains-found}
 use Rattle.result_text.specs.KeyColumns.{columns_in}
 use Rattle.result_text.proofs.Columns.{columns_total}
 use Rattle.state_blocks.specs.Blocks.{Group}
-use Rattle.state_head.specs.Words.{Keys}
+use Rattle.state_head.specs.Words.{Keys, keys_of}
 use Rattle.state_order.specs.Order.{HasKeys, Rise}
+use Rattle.state_order.specs.Ranges.{is_within}
 use Rattle.state_order.specs.declared.order.KeyOrder.{KeyOrder}
-use Rattle.state_whole.specs.Adding.{HasAdded, key_of, state_of, sum_with, with_group}
+use Rattle.state_whole.specs.Adding.{HasAdded, kept_sum, kept_with, key_of, state_of, with_group}
 use Rattle.state_whole.specs.declared.adding.FileCount.{FileCount}
+use Rattle.state_whole.specs.declared.adding.Kept.{Kept}
 use Rattle.state_whole.specs.declared.adding.Shape.{Shape}
 
 -- ---- before the first group
 
-pub none_has : (shape : Shape) (range : Keys) (m n : GroupsByKey) (order : KeyOrder) (count : FileCount) → n ≡ m → count.groups ≡ 0 → HasKeys shape.columns range [] order → HasAdded shape range m [] n order count
-none_has shape range m n order count same none keys = record { sum = same; keys = keys; many = none; most = All-nil (λ (g : Group). g.rows ≤ count.most) }
+pub none_has : (shape : Shape) (kept : Kept) (range : Keys) (m n : GroupsByKey) (order : KeyOrder) (count : FileCount) → n ≡ m → count.groups ≡ 0 → HasKeys shape.columns range [] order → HasAdded shape kept range m [] n order count
+none_has shape kept range m n order count same none keys = record { sum = same; keys = keys; many = none; most = All-nil (λ (g : Group). g.rows ≤ count.most) }
 
 -- ---- keys that rise are different
 
@@ -114,10 +116,16 @@ room_more shape m g gs a b apart few is = record {
     other k v among (inl here) = absurd (apart (subst (λ (q : List ℕ). Among q gs) here.0 among))
     other k v among (inr there) = is.these k v (inr among) there.1
 
-room_all : (shape : Shape) (gs : List Group) (m : GroupsByKey) (a b : ℕ) → Apart gs → All (λ (g : Group). g.rows ≤ b) gs → HasRoom m gs a b → (k : List ℕ) (v : AggState) → finite.get (sum_with shape m gs) k ≡ Some v → v.rows ≤ a + b
-room_all shape [] m a b apart few is = is.all
-room_all shape (g ∷ gs) m a b apart few is =
-    room_all shape gs (with_group shape m g) a b apart.1 (All-tail (λ (h : Group). h.rows ≤ b) g gs few) (room_more shape m g gs a b apart.0 (All-head (λ (h : Group). h.rows ≤ b) g gs few) is)
+-- whether it is kept or not
+room_next : (shape : Shape) (m : GroupsByKey) (g : Group) (gs : List Group) (a b : ℕ) → (Among g.key gs → ⊥) → g.rows ≤ b → HasRoom m (g ∷ gs) a b → (x : Bool) → HasRoom (cond x (with_group shape m g) m) gs a b
+room_next shape m g gs a b apart few is true = room_more shape m g gs a b apart few is
+room_next shape m g gs a b apart few is false = record { all = is.all; these = λ k v among e. is.these k v (inr among) e }
+
+room_all : (shape : Shape) (kept : Kept) (gs : List Group) (m : GroupsByKey) (a b : ℕ) → Apart gs → All (λ (g : Group). g.rows ≤ b) gs → HasRoom m gs a b → (k : List ℕ) (v : AggState) → finite.get (kept_sum shape kept m gs) k ≡ Some v → v.rows ≤ a + b
+room_all shape kept [] m a b apart few is = is.all
+room_all shape kept (g ∷ gs) m a b apart few is =
+    room_all shape kept gs (kept_with kept m g.key (state_of shape g)) a b apart.1 (All-tail (λ (h : Group). h.rows ≤ b) g gs few)
+    (room_next shape m g gs a b apart.0 (All-head (λ (h : Group). h.rows ≤ b) g gs few) is (is_within kept.columns (keys_of kept.range) g.key))
 
 -- ---- the groups of a map as a list
 
@@ -132,11 +140,11 @@ of_listed m n all k v e =
     subst (λ (g : MapGroup). g.state.rows ≤ n) (get_or-map group (finite.entries m) c.0 (k, v) (group (k, v)) c.1 ∙ ap group c.2) here
 
 -- after groups whose keys rise, each of at most b rows, were added to a map of groups of at most a rows
-pub sum_bound : (columns : ℕ) (shape : Shape) (m : GroupsByKey) (gs : List Group) (a b : ℕ) → All (λ (g : MapGroup). g.state.rows ≤ a) (listed m) → Rise columns (map key_of gs) → All (λ (g : Group). g.rows ≤ b) gs
-    → All (λ (g : MapGroup). g.state.rows ≤ a + b) (listed (sum_with shape m gs))
-sum_bound columns shape m gs a b all rise few =
+pub sum_bound : (columns : ℕ) (shape : Shape) (kept : Kept) (m : GroupsByKey) (gs : List Group) (a b : ℕ) → All (λ (g : MapGroup). g.state.rows ≤ a) (listed m) → Rise columns (map key_of gs) → All (λ (g : Group). g.rows ≤ b) gs
+    → All (λ (g : MapGroup). g.state.rows ≤ a + b) (listed (kept_sum shape kept m gs))
+sum_bound columns shape kept m gs a b all rise few =
     let has = of_listed m a all in
-    listed_of (sum_with shape m gs) (a + b) (room_all shape gs m a b (apart_of columns gs rise) few (record {
+    listed_of (kept_sum shape kept m gs) (a + b) (room_all shape kept gs m a b (apart_of columns gs rise) few (record {
       all = λ k v e. let h = has k v e in omega (arith, h);
       these = λ k v among e. has k v e;
     }))

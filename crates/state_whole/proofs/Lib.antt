@@ -1,6 +1,7 @@
 mod Adds
 mod Bodies
 mod Bounds
+mod Keeping
 mod Sums
 mod Refusals
 mod Runs

@@ -13,33 +13,34 @@ use Rattle.state_order.specs.declared.order.KeyOrder.{KeyOrder}
 use Rattle.state_whole.specs.Adding.{CannotAdd, HasAdded}
 use Rattle.state_whole.specs.declared.adding.FileCount.{FileCount}
 use Rattle.state_whole.specs.declared.adding.GroupFault.{GroupFault}
+use Rattle.state_whole.specs.declared.adding.Kept.{Kept}
 use Rattle.state_whole.specs.declared.adding.Shape.{Shape}
 
 -- some blocks are added, and these bytes are left of all
-pub record AreBegun (shape : Shape) (range : Keys) (start : GroupsByKey) (groups : List Group) (blocks : List (List Group)) (rest : List ℕ) (m : GroupsByKey) (order : KeyOrder) (count : FileCount) : Type 0 where
+pub record AreBegun (shape : Shape) (kept : Kept) (range : Keys) (start : GroupsByKey) (groups : List Group) (blocks : List (List Group)) (rest : List ℕ) (m : GroupsByKey) (order : KeyOrder) (count : FileCount) : Type 0 where
   pub front : List (List Group)
   pub tail : List (List Group)
   pub is : blocks ≡ front ++ tail
   pub each : All (IsBlock shape.columns shape.kinds.now) tail
   pub left : rest ≡ blocks_bytes shape.kinds.now tail
-  pub has : HasAdded shape range start (groups ++ groups_of front) m order count
+  pub has : HasAdded shape kept range start (groups ++ groups_of front) m order count
 
 -- so far, of whatever blocks these bytes are
-pub record IsAddedUpTo (shape : Shape) (bytes rest : List ℕ) (m0 : GroupsByKey) (order0 : KeyOrder) (count0 : FileCount) (m : GroupsByKey) (order : KeyOrder) (count : FileCount) (at : ℕ) : Type 0 where
-  pub begun : (start : GroupsByKey) (range : Keys) (groups : List Group) (blocks : List (List Group)) → HasAdded shape range start groups m0 order0 count0 → All (IsBlock shape.columns shape.kinds.now) blocks → bytes ≡ blocks_bytes shape.kinds.now blocks
-      → AreBegun shape range start groups blocks rest m order count
+pub record IsAddedUpTo (shape : Shape) (kept : Kept) (bytes rest : List ℕ) (m0 : GroupsByKey) (order0 : KeyOrder) (count0 : FileCount) (m : GroupsByKey) (order : KeyOrder) (count : FileCount) (at : ℕ) : Type 0 where
+  pub begun : (start : GroupsByKey) (range : Keys) (groups : List Group) (blocks : List (List Group)) → HasAdded shape kept range start groups m0 order0 count0 → All (IsBlock shape.columns shape.kinds.now) blocks → bytes ≡ blocks_bytes shape.kinds.now blocks
+      → AreBegun shape kept range start groups blocks rest m order count
   pub room : at + length rest ≤ length bytes
   pub few : count.groups + length rest ≤ count0.groups + length bytes
 
-pub none_added : (shape : Shape) (bytes : List ℕ) (m : GroupsByKey) (order : KeyOrder) (count : FileCount) → IsAddedUpTo shape bytes bytes m order count m order count 0
-none_added shape bytes m order count = record {
+pub none_added : (shape : Shape) (kept : Kept) (bytes : List ℕ) (m : GroupsByKey) (order : KeyOrder) (count : FileCount) → IsAddedUpTo shape kept bytes bytes m order count m order count 0
+none_added shape kept bytes m order count = record {
   begun = λ start range groups blocks has all e. record {
     front = [];
     tail = blocks;
     is = refl;
     each = all;
     left = e;
-    has = subst (λ (gs : List Group). HasAdded shape range start gs m order count) (sym (append-nil groups)) has;
+    has = subst (λ (gs : List Group). HasAdded shape kept range start gs m order count) (sym (append-nil groups)) has;
   };
   room = omega arith;
   few = omega arith;
@@ -73,19 +74,19 @@ groups_more : (front : List (List Group)) (block : List Group) → groups_of (fr
 groups_more front block = flat_map-append {X = List Group} {A = Group} (λ b. b) front (block ∷ []) ∙ ap (λ (gs : List Group). groups_of front ++ gs) (append-nil block)
 
 -- one block more is added
-pub one_added : (shape : Shape) (bytes rest part after : List ℕ) (m0 m n : GroupsByKey) (order0 order next : KeyOrder) (count0 count more : FileCount) (at : ℕ) → IsAddedUpTo shape bytes rest m0 order0 count0 m order count at → 0 < length rest
+pub one_added : (shape : Shape) (kept : Kept) (bytes rest part after : List ℕ) (m0 m n : GroupsByKey) (order0 order next : KeyOrder) (count0 count more : FileCount) (at : ℕ) → IsAddedUpTo shape kept bytes rest m0 order0 count0 m order count at → 0 < length rest
     → length part + length after + 8 ≡ length rest → more.groups ≤ count.groups + length part
     → ((p r : List ℕ) → length p < 2 ^ 32 → rest ≡ section p ++ r → (part ≡ p) × (after ≡ r))
-    → ((start : GroupsByKey) (range : Keys) (groups block : List Group) → HasAdded shape range start groups m order count → All (IsTuple shape.columns shape.kinds.now) block → part ≡ block_bytes shape.kinds.now block
-    → HasAdded shape range start (groups ++ block) n next more)
-    → IsAddedUpTo shape bytes after m0 order0 count0 n next more (at + 1)
-one_added shape bytes rest part after m0 m n order0 order next count0 count more at is some long groups_many split adds =
+    → ((start : GroupsByKey) (range : Keys) (groups block : List Group) → HasAdded shape kept range start groups m order count → All (IsTuple shape.columns shape.kinds.now) block → part ≡ block_bytes shape.kinds.now block
+    → HasAdded shape kept range start (groups ++ block) n next more)
+    → IsAddedUpTo shape kept bytes after m0 order0 count0 n next more (at + 1)
+one_added shape kept bytes rest part after m0 m n order0 order next count0 count more at is some long groups_many split adds =
     let room = is.room in
     let few = is.few in
     record { begun = go; room = omega (arith, room, long); few = omega (arith, few, long, groups_many) }
   where
-    go : (start : GroupsByKey) (range : Keys) (groups : List Group) (blocks : List (List Group)) → HasAdded shape range start groups m0 order0 count0 → All (IsBlock shape.columns shape.kinds.now) blocks → bytes ≡ blocks_bytes shape.kinds.now blocks
-        → AreBegun shape range start groups blocks after n next more
+    go : (start : GroupsByKey) (range : Keys) (groups : List Group) (blocks : List (List Group)) → HasAdded shape kept range start groups m0 order0 count0 → All (IsBlock shape.columns shape.kinds.now) blocks → bytes ≡ blocks_bytes shape.kinds.now blocks
+        → AreBegun shape kept range start groups blocks after n next more
     go start range groups blocks has all e =
         let b = is.begun start range groups blocks has all e in
         let f = begins_with shape.kinds.now b.tail rest b.left some in
@@ -99,23 +100,23 @@ one_added shape bytes rest part after m0 m n order0 order next count0 count more
           is = b.is ∙ ap (λ (bs : List (List Group)). b.front ++ bs) f.is ∙ sym (append_assoc b.front (f.block ∷ []) f.later);
           each = All-tail (IsBlock shape.columns shape.kinds.now) f.block f.later each;
           left = two.1;
-          has = subst (λ (gs : List Group). HasAdded shape range start gs n next more) (append_assoc groups (groups_of b.front) f.block ∙ ap (λ (gs : List Group). groups ++ gs) (sym (groups_more b.front f.block))) did;
+          has = subst (λ (gs : List Group). HasAdded shape kept range start gs n next more) (append_assoc groups (groups_of b.front) f.block ∙ ap (λ (gs : List Group). groups ++ gs) (sym (groups_more b.front f.block))) did;
         }
 
 -- all blocks are added
-pub all_added : (shape : Shape) (bytes rest : List ℕ) (m0 m : GroupsByKey) (order0 order : KeyOrder) (count0 count : FileCount) (at : ℕ) → IsAddedUpTo shape bytes rest m0 order0 count0 m order count at → length rest ≡ 0
-    → (start : GroupsByKey) (range : Keys) (groups : List Group) (blocks : List (List Group)) → HasAdded shape range start groups m0 order0 count0 → All (IsBlock shape.columns shape.kinds.now) blocks → bytes ≡ blocks_bytes shape.kinds.now blocks
-    → HasAdded shape range start (groups ++ groups_of blocks) m order count
-all_added shape bytes rest m0 m order0 order count0 count at is none start range groups blocks has all e =
+pub all_added : (shape : Shape) (kept : Kept) (bytes rest : List ℕ) (m0 m : GroupsByKey) (order0 order : KeyOrder) (count0 count : FileCount) (at : ℕ) → IsAddedUpTo shape kept bytes rest m0 order0 count0 m order count at → length rest ≡ 0
+    → (start : GroupsByKey) (range : Keys) (groups : List Group) (blocks : List (List Group)) → HasAdded shape kept range start groups m0 order0 count0 → All (IsBlock shape.columns shape.kinds.now) blocks → bytes ≡ blocks_bytes shape.kinds.now blocks
+    → HasAdded shape kept range start (groups ++ groups_of blocks) m order count
+all_added shape kept bytes rest m0 m order0 order count0 count at is none start range groups blocks has all e =
     let b = is.begun start range groups blocks has all e in
     let whole = b.is ∙ ap (λ (bs : List (List Group)). b.front ++ bs) (no_blocks_left shape.kinds.now b.tail rest b.left none) ∙ append-nil b.front in
-    subst (λ (bs : List (List Group)). HasAdded shape range start (groups ++ groups_of bs) m order count) (sym whole) b.has
+    subst (λ (bs : List (List Group)). HasAdded shape kept range start (groups ++ groups_of bs) m order count) (sym whole) b.has
 
 -- no section is read where a block is left
-pub not_split : (shape : Shape) (bytes rest : List ℕ) (m0 m : GroupsByKey) (order0 order : KeyOrder) (count0 count : FileCount) (at : ℕ) → IsAddedUpTo shape bytes rest m0 order0 count0 m order count at → 0 < length rest
+pub not_split : (shape : Shape) (kept : Kept) (bytes rest : List ℕ) (m0 m : GroupsByKey) (order0 order : KeyOrder) (count0 count : FileCount) (at : ℕ) → IsAddedUpTo shape kept bytes rest m0 order0 count0 m order count at → 0 < length rest
     → ((p r : List ℕ) → length p < 2 ^ 32 → rest ≡ section p ++ r → ⊥)
-    → (start : GroupsByKey) (range : Keys) (groups : List Group) (blocks : List (List Group)) → HasAdded shape range start groups m0 order0 count0 → All (IsBlock shape.columns shape.kinds.now) blocks → bytes ≡ blocks_bytes shape.kinds.now blocks → ⊥
-not_split shape bytes rest m0 m order0 order count0 count at is some none start range groups blocks has all e =
+    → (start : GroupsByKey) (range : Keys) (groups : List Group) (blocks : List (List Group)) → HasAdded shape kept range start groups m0 order0 count0 → All (IsBlock shape.columns shape.kinds.now) blocks → bytes ≡ blocks_bytes shape.kinds.now blocks → ⊥
+not_split shape kept bytes rest m0 m order0 order count0 count at is some none start range groups blocks has all e =
     let b = is.begun start range groups blocks has all e in
     let f = begins_with shape.kinds.now b.tail rest b.left some in
     let each = subst (λ (bs : List (List Group)). All (IsBlock shape.columns shape.kinds.now) bs) f.is b.each in
@@ -132,12 +133,12 @@ cannot_more shape range groups more why is = record {
 }
 
 -- the next block is not added
-pub not_added : (shape : Shape) (bytes rest part after : List ℕ) (m0 m : GroupsByKey) (order0 order : KeyOrder) (count0 count : FileCount) (at : ℕ) (why : GroupFault) → IsAddedUpTo shape bytes rest m0 order0 count0 m order count at → 0 < length rest
+pub not_added : (shape : Shape) (kept : Kept) (bytes rest part after : List ℕ) (m0 m : GroupsByKey) (order0 order : KeyOrder) (count0 count : FileCount) (at : ℕ) (why : GroupFault) → IsAddedUpTo shape kept bytes rest m0 order0 count0 m order count at → 0 < length rest
     → ((p r : List ℕ) → length p < 2 ^ 32 → rest ≡ section p ++ r → (part ≡ p) × (after ≡ r))
-    → ((start : GroupsByKey) (range : Keys) (groups block : List Group) → HasAdded shape range start groups m order count → All (IsTuple shape.columns shape.kinds.now) block → part ≡ block_bytes shape.kinds.now block → CannotAdd shape range (groups ++ block) why)
-    → (start : GroupsByKey) (range : Keys) (groups : List Group) (blocks : List (List Group)) → HasAdded shape range start groups m0 order0 count0 → All (IsBlock shape.columns shape.kinds.now) blocks → bytes ≡ blocks_bytes shape.kinds.now blocks
+    → ((start : GroupsByKey) (range : Keys) (groups block : List Group) → HasAdded shape kept range start groups m order count → All (IsTuple shape.columns shape.kinds.now) block → part ≡ block_bytes shape.kinds.now block → CannotAdd shape range (groups ++ block) why)
+    → (start : GroupsByKey) (range : Keys) (groups : List Group) (blocks : List (List Group)) → HasAdded shape kept range start groups m0 order0 count0 → All (IsBlock shape.columns shape.kinds.now) blocks → bytes ≡ blocks_bytes shape.kinds.now blocks
     → CannotAdd shape range (groups ++ groups_of blocks) why
-not_added shape bytes rest part after m0 m order0 order count0 count at why is some split none start range groups blocks has all e =
+not_added shape kept bytes rest part after m0 m order0 order count0 count at why is some split none start range groups blocks has all e =
     let b = is.begun start range groups blocks has all e in
     let f = begins_with shape.kinds.now b.tail rest b.left some in
     let each = subst (λ (bs : List (List Group)). All (IsBlock shape.columns shape.kinds.now) bs) f.is b.each in

@@ -1,17 +1,19 @@
 -- The groups of files, added up.
-use Rattle.std.specs.Prelude.{◌≡◌, ◌≤◌, ◌+◌, ◌++◌, ℕ, List, ◌∷◌, All, Contains, fold, length, map}
+use Rattle.std.specs.Prelude.{◌≡◌, ◌≤◌, ◌+◌, ◌++◌, ℕ, List, ◌∷◌, All, Contains, fold, if◌then◌else◌, length, map}
 use Rattle.par_model.specs.Plan.{Plan}
 use Rattle.par_model.specs.declared.state.AggState.{AggState}
 use Rattle.partial_agg.specs.Groups.{GroupsByKey, added}
 use Rattle.partial_agg.specs.declared.groups.Group.{Group as MapGroup}
 use Rattle.state_blocks.specs.Blocks.{Group}
-use Rattle.state_head.specs.Words.{Keys}
+use Rattle.state_head.specs.Words.{Keys, keys_of}
 use Rattle.state_lanes.specs.Lanes.{item_slots, kinds_of, lanes_of}
 use Rattle.state_order.specs.Order.{DoesNotFollow, HasKeys, IsIn}
+use Rattle.state_order.specs.Ranges.{is_within}
 use Rattle.state_order.specs.declared.order.KeyOrder.{KeyOrder}
 use Rattle.state_whole.specs.declared.adding.FileCount.{FileCount}
 use Rattle.state_whole.specs.declared.adding.GroupFault.{GroupFault}
 use Rattle.state_whole.specs.declared.adding.GroupFault.TheVariants as fault
+use Rattle.state_whole.specs.declared.adding.Kept.{Kept}
 use Rattle.state_whole.specs.declared.adding.Shape.{Shape}
 
 -- at most eight aggregates, at most eight lanes, and which of them have numbers
@@ -41,9 +43,17 @@ with_group shape m g = added m g.key (state_of shape g)
 abbrev pub sum_with : Shape → GroupsByKey → List Group → GroupsByKey
 sum_with shape m groups = fold (with_group shape) m groups
 
--- these groups of a file were added to a map
-pub record HasAdded (shape : Shape) (range : Keys) (start : GroupsByKey) (groups : List Group) (m : GroupsByKey) (order : KeyOrder) (count : FileCount) : Type 0 where
-  pub sum : m ≡ sum_with shape start groups
+-- the map after a state was added under a key, if it is one that is kept
+abbrev pub kept_with : Kept → GroupsByKey → List ℕ → AggState → GroupsByKey
+kept_with kept m key state = if is_within kept.columns (keys_of kept.range) key then added m key state else m
+
+-- the map after those of these groups, in order, that are kept
+abbrev pub kept_sum : Shape → Kept → GroupsByKey → List Group → GroupsByKey
+kept_sum shape kept m groups = fold (λ so_far g. kept_with kept so_far g.key (state_of shape g)) m groups
+
+-- these groups of a file were added to a map, those that are kept
+pub record HasAdded (shape : Shape) (kept : Kept) (range : Keys) (start : GroupsByKey) (groups : List Group) (m : GroupsByKey) (order : KeyOrder) (count : FileCount) : Type 0 where
+  pub sum : m ≡ kept_sum shape kept start groups
   pub keys : HasKeys shape.columns range (map key_of groups) order
   pub many : count.groups ≡ length groups
   pub most : All (λ g. g.rows ≤ count.most) groups

@@ -6,11 +6,12 @@ use Rattle.state_blocks.specs.Blocks.{Group}
 use Rattle.state_body.specs.Body.{IsBody, body_bytes, groups_of}
 use Rattle.state_body.specs.Faults.{IsNoBody}
 use Rattle.state_head.specs.Head.{Preface}
-use Rattle.state_head.specs.Words.{Keys}
+use Rattle.state_head.specs.Words.{Keys, keys_of}
 use Rattle.state_head.specs.declared.cover.Rows.{Rows}
 use Rattle.state_head.specs.declared.cover.Rows.TheVariants.{Counted, Refused}
 use Rattle.state_head.specs.declared.cover.Stretch.{Stretch}
 use Rattle.state_order.specs.Order.{AreInOrder}
+use Rattle.state_order.specs.Ranges.{AreWithin}
 use Rattle.state_whole.specs.Adding.{CannotAdd, key_of, sum_with}
 use Rattle.state_whole.specs.declared.adding.Shape.{Shape}
 use Rattle.state_whole.specs.declared.files.FileFault.{FileFault}
@@ -21,12 +22,12 @@ use Rattle.state_whole.specs.declared.files.Sum.{Sum}
 abbrev pub AreBounded : GroupsByKey → Type 0
 AreBounded m = All (λ group. group.state.rows ≤ 2 ^ 50) (listed m)
 
--- the groups and stretches of the files so far
+-- the groups of the files so far, of which those are there that the sum keeps, and the stretches
 pub record AreSummed (m : GroupsByKey) (cover : List Stretch) (sum : Sum) : Type 0 where
-  pub map_is : sum.map ≡ m
+  pub are_within : AreWithin sum.kept.columns (keys_of sum.kept.range) m sum.map
   pub cover_is : sum.cover.items ≡ cover
   pub most : sum.most ≤ 2 ^ 50
-  pub bound : All (λ group. group.state.rows ≤ sum.most) (listed m)
+  pub bound : All (λ group. group.state.rows ≤ sum.most) (listed sum.map)
 
 -- whether a row of some stretches is refused
 abbrev pub is_refused : Rows → Bool

@@ -14,7 +14,7 @@ ghost use Rattle.state_order.specs.Order.{AreInOrder};
 ghost use Rattle.state_whole.specs.Adding.{IsShape, key_of, sum_with};
 ghost use Rattle.state_whole.specs.Sums.{AreFileGroups, AreNotAdded, AreSummed, HasNoGroups, HasRefused, IsNoFile, has_refused, is_refused};
 
-use crate::adding::{FileCount, GroupFault, Shape, add_blocks};
+use crate::adding::{FileCount, GroupFault, Kept, Shape, add_blocks};
 use crate::rows::bounded;
 use partial_agg::GroupMap;
 use state_body::{BodyFault, BodyRead, read_body};
@@ -34,22 +34,25 @@ pub enum FileFault {
     Rows,
 }
 
-/// The files so far.
+/// The files so far: those of their groups that are kept, and their stretches.
 #[derive(Drop)]
-pub struct Sum {
+pub struct Sum<'k> {
     pub map: GroupMap,
     pub cover: Vec<Stretch>,
+    pub kept: Kept<'k>,
     most: u64,
 }
 
-impl Sum {
-    /// No files.
-    pub fn new(alloc: Global) -> Sum
-        ensures { AreSummed fin.empty [] result }
+impl<'k> Sum<'k> {
+    /// No files. Of those that will come these groups are kept: the others are looked at, and take no memory.
+    pub fn new(alloc: Global, kept: Kept<'k>) -> Sum<'k>
+        ensures none { AreSummed fin.empty [] result }
+        ensures kept { result.kept ≡ kept.entry }
     {
         Sum {
             map: GroupMap::new(alloc),
             cover: Vec::new(alloc),
+            kept,
             most: 0,
         }
     }
@@ -68,6 +71,8 @@ impl Sum {
         ensures sum { (m : GroupsByKey) (cover : List Stretch) (blocks : List (List Group)) (rest : List ℕ) → AreSummed m cover self.old → IsBody shape.now.columns shape.now.kinds.now front.now.at blocks
             → front.now.rest.now ≡ body_bytes shape.now.kinds.now front.now.at blocks ++ rest
             → IfOk result (λ after. (after.now ≡ rest) × AreSummed (sum_with shape.now m (groups_of blocks)) (cover ++ front.now.head.cover.items) self.new) }
+
+        ensures kept { self.new.kept ≡ self.old.kept }
 
         // When each error comes.
         ensures refused { (m : GroupsByKey) (cover : List Stretch) → AreSummed m cover self.old → IfErr result (IsNoFile shape.now m (preface_of front.now.head) front.now.at front.now.rest.now) }
@@ -89,12 +94,20 @@ impl Sum {
             → OnOk result (AreInOrder shape.now.columns (preface_of front.now.head).keys (map_list key_of (groups_of bs))) }
         ensures sum { (m : GroupsByKey) (cover : List Stretch) (bs : List (List Group)) → AreSummed m cover self.old → All (IsBlock shape.now.columns shape.now.kinds.now) bs → blocks.now ≡ blocks_bytes shape.now.kinds.now bs
             → OnOk result (AreSummed (sum_with shape.now m (groups_of bs)) (cover ++ front.now.head.cover.items) self.new) }
+        ensures kept { self.new.kept ≡ self.old.kept }
         ensures refused { (m : GroupsByKey) (cover : List Stretch) (bs : List (List Group)) → AreSummed m cover self.old → All (IsBlock shape.now.columns shape.now.kinds.now) bs → blocks.now ≡ blocks_bytes shape.now.kinds.now bs
             → IfErr result (AreNotAdded shape.now m (preface_of front.now.head).keys (groups_of bs)) }
     {
         let mut order = KeyOrder::new(shape.columns, front.head.range);
         let mut count = FileCount { groups: 0, most: 0 };
-        match add_blocks(&mut self.map, &mut order, &mut count, blocks, shape) {
+        match add_blocks(
+            &mut self.map,
+            &mut order,
+            &mut count,
+            blocks,
+            shape,
+            self.kept,
+        ) {
             Ok(()) => {}
             Err(why) => return Err(FileFault::Group { why }),
         }
@@ -108,14 +121,15 @@ impl Sum {
         }
     }
 
-    /// The groups and the stretches of all files.
+    /// The groups that were kept, and the stretches of all files.
     pub fn into_parts(self) -> (GroupMap, Vec<Stretch>)
-        ensures map { result.0 ≡ self.map }
-        ensures cover { result.1.items ≡ self.cover.items }
+        ensures map { result.0 ≡ self.entry.map }
+        ensures cover { result.1.items ≡ self.entry.cover.items }
     {
         let Sum {
             map,
             cover,
+            kept: _,
             most: _,
         } = self;
         (map, cover)

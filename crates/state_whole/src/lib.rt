@@ -7,6 +7,6 @@ mod alike;
 mod files;
 mod rows;
 
-pub use adding::{GroupFault, Shape};
+pub use adding::{GroupFault, Kept, Shape};
 pub use alike::{OtherFile, check_range, check_whole};
 pub use files::{FileFault, Sum};

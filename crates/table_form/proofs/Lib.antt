@@ -9,4 +9,3 @@ pub mod Points
 pub mod Widths
 pub mod Values
 pub mod Fronts
-pub mod Fronted

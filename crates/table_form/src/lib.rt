@@ -7,7 +7,6 @@
 
 mod aligned;
 mod between;
-mod escaped;
 mod form;
 mod json;
 mod laws;

@@ -7,9 +7,9 @@ ghost use Rattle.par_model.specs.Table.{table_text};
 ghost use Rattle.table_form.specs.Aligned.{begins_character, characters, column_sizes, shown};
 ghost use Rattle.table_form.specs.Sizes.{AreWide, AreWidened};
 
-use crate::escaped::put_escaped;
 use crate::row::{field_at, read_row};
 use csv::ByteRecord;
+use shown_text::put_escaped;
 use std::alloc::{AllocError, Global};
 
 /// How many characters the widest field of each column has as it is shown, its name among them.

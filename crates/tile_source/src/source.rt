@@ -13,7 +13,7 @@ use std::alloc::Global;
 /// A source. Once a tile of it was asked for it gives that: the text of the header, and then the bytes of the tile.
 #[derive(Drop)]
 pub struct TileSource<S> {
-    source: S,
+    pub source: S,
     tile: Option<Tile>,
 }
 

@@ -60,7 +60,7 @@ fn tells(rt: HostRuntime) -> Result<(), Fail> {
 }
 
 /// The first bytes of files, and what these are.
-const KINDS: [(&[u8], Option<Kind>); 26] = [
+const KINDS: [(&[u8], Option<Kind>); 29] = [
     (b"\x1f\x8b\x08\0", Some(Kind::Gzip)),
     (b"\xfd7zXZ\0\0\x04", Some(Kind::Xz)),
     (b"\x28\xb5\x2f\xfd\x04", Some(Kind::Zstd)),
@@ -71,6 +71,9 @@ const KINDS: [(&[u8], Option<Kind>); 26] = [
     (b"BZh91,v\n", None),
     (b"{\"g\":1}\n", Some(Kind::Json)),
     (b"[{\"g\":1}]\n", Some(Kind::Json)),
+    (b"\xd0\xcf\x11\xe0\xa1\xb1", Some(Kind::Ole)),
+    (b"%PDF-1.7\n", Some(Kind::Pdf)),
+    (b"%PDF,v\n", None),
     (b"{g},v\n", None),
     (b"[g],\"v\"\n", None),
     (b"\xff\xfe\0\0g\0\0\0", Some(Kind::Utf32)),
@@ -97,7 +100,7 @@ fn kinds(rt: HostRuntime) {
 }
 
 /// Fields, and how they are shown.
-const SHOWN: [(&[u8], &str); 12] = [
+const SHOWN: [(&[u8], &str); 14] = [
     (b"1.50", "\"1.50\""),
     (b"", "\"\""),
     (b"a\"b\\c", "\"a\\\"b\\\\c\""),
@@ -112,6 +115,8 @@ const SHOWN: [(&[u8], &str); 12] = [
         b"a\xe2\x80\xaeb\xe2\x80\xa6",
         "\"a\\xe2\\x80\\xaeb\u{2026}\"",
     ),
+    (b"\xef\xbb\xbfg", "\"\\xef\\xbb\\xbfg\""),
+    (b"a\xc2\xa0b", "\"a\\xc2\\xa0b\""),
     (b"\xe2\x82", "\"\\xe2\\x82\""),
     (b"\xed\xa0\x80", "\"\\xed\\xa0\\x80\""),
     (
@@ -299,11 +304,11 @@ const REFUSED: [(&str, &str); 11] = [
     ("--agg count", ""),
     (
         "--agg count orders.csv",
-        "parstream: \"orders.csv\" is not understood: the options are --group, --agg, --where, --decimals, --separator, --null, --trim, --workers, --order, --limit and --output; see parstream --help\n",
+        "parstream: \"orders.csv\" is not understood: the options are --group, --agg, --where, --decimals, --separator, --null, --trim, --workers, --order, --limit, --output and --no-header; the input is the standard input, as in < FILE; see parstream --help\n",
     ),
     (
         "--agg sum(v)",
-        "parstream: \"sum(v)\" is not understood: --agg takes one to eight of count, count:C, sum:C, min:C, max:C and avg:C between commas; see parstream --help\n",
+        "parstream: \"sum(v)\" is not understood: --agg takes one to eight of count, count:C, sum:C, min:C, max:C and avg:C between commas, without spaces; see parstream --help\n",
     ),
     (
         "--where=gr\u{f6}\u{df}e>\u{1b}[31m01234567890123456789 --agg count",

@@ -52,7 +52,7 @@ fn reads_that_fail(rt: HostRuntime) -> Result<(), Fail> {
     // The row is in the second window, which the third read fills.
     let input = "g,v\na,x\nb,2\na,3\n";
     for read in 4..=9u64 {
-        let line = b": row 1 (line 2): column \"v\" is not an integer: \"x\"\n";
+        let line = b": row 1 (line 2): column \"v\" is not an integer: \"x\"; see --null\n";
         let refused = (1u8, b"".as_slice(), line.as_slice());
         assert!(rt;
             is_answered(&rt, alloc, input, read, NONE, refused)?,

@@ -10,21 +10,21 @@ const ROWS: [Row; 10] = [
         "--agg sum:v",
         "\n\ng,v\r\n\"a\r\nb\",1\r\n\r\n\nc,x\r\n",
         1,
-        ": row 2 (line 8): column \"v\" is not an integer: \"x\"\n",
+        ": row 2 (line 8): column \"v\" is not an integer: \"x\"; see --null\n",
     ),
     // a carriage return by itself ends a record and no line
     (
         "--agg sum:v",
         "g,v\ra,1\rb,x\r",
         1,
-        ": row 2 (line 1): column \"v\" is not an integer: \"x\"\n",
+        ": row 2 (line 1): column \"v\" is not an integer: \"x\"; see --null\n",
     ),
     // a mark, and a header over two lines
     (
         "--agg sum:v",
         "\u{feff}\n\"g\n\",v\na,x\n",
         1,
-        ": row 1 (line 4): column \"v\" is not an integer: \"x\"\n",
+        ": row 1 (line 4): column \"v\" is not an integer: \"x\"; see --null\n",
     ),
     // a record over lines is named by its first
     (

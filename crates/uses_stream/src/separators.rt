@@ -55,7 +55,7 @@ const ROWS: [Row; 15] = [
         "--group g --agg count:v,sum:v --trim --null NA",
         " g ,\tv\na, NA \n\"a \",4\n a,x\u{20}\n",
         1,
-        ": row 3 (line 4): column \"v\" is not an integer: \"x\"\n",
+        ": row 3 (line 4): column \"v\" is not an integer: \"x\"; see --null\n",
     ),
     (
         "--group g --agg count:v,sum:v --trim --null NA",

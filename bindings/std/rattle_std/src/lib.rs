@@ -18,6 +18,8 @@ pub mod process;
 mod runtime;
 pub mod simd;
 pub mod snapshot;
+#[cfg(unix)]
+pub mod streams;
 pub mod string;
 pub mod sync;
 pub mod test;

@@ -19,11 +19,23 @@ impl HostRuntime {
         Global
     }
 
+    #[cfg(unix)]
+    pub fn stdin(&self) -> crate::streams::Stdin {
+        crate::streams::Stdin::new()
+    }
+
+    #[cfg(not(unix))]
     pub fn stdin(&self) -> std::io::Stdin {
         std::io::stdin()
     }
 
     /// Without a buffer of lines, since the programs write whole pieces and flush each.
+    #[cfg(unix)]
+    pub fn stdout(&self) -> crate::streams::Stdout {
+        crate::streams::Stdout::new()
+    }
+
+    #[cfg(not(unix))]
     pub fn stdout(&self) -> std::io::Stdout {
         std::io::stdout()
     }

@@ -2,6 +2,7 @@ use Rattle.std.proofs.Common.{inl, inr, refl, string_bytes}
 use Rattle.shown_words.specs.Taking.{taken_as}
 use Rattle.plan_spec.specs.Query.{stream_query_of}
 use Rattle.shown_stream.specs.Shown.{how_in}
+use Rattle.stream_groups.specs.Sources.{bare_left}
 use Rattle.stream_groups.specs.declared.stop.Stop.TheVariants as stop
 use Rattle.shown_stream.proofs.Ends.{tells_memory}
 use Rattle.shown_stream.proofs.Hows.{err_each, err_none, err_of, ok_each, ok_none, ok_of}
@@ -45,4 +46,4 @@ returns-in-Err-clause-wrong g c =
 pub returns-in-Err-clause-why : goal.returns-in-Err-clause-why
 returns-in-Err-clause-why g c = λ _.
     ok_each _ (how_in (taken_as c.args.taken.now))
-    (λ how. (stop.Memory, tells_memory (stream_query_of (taken_as c.args.taken.now).rest) (g.S.Source.left c.args.source.now), c.say_memory.ensures.status, c.say_memory.ensures.said))
+    (λ how. (stop.Memory, tells_memory (stream_query_of (taken_as c.args.taken.now).rest) (bare_left g.S.Source.left c.args.source.now), c.say_memory.ensures.status, c.say_memory.ensures.said))

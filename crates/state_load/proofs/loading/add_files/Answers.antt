@@ -30,7 +30,7 @@ pub loop-at-preserved : goal.loop-at-preserved
 loop-at-preserved c =
     let some = not_empty c.loop-at.rest.now c.is_empty.result c.is_empty.ensures c.if-is_empty.false in
     let did = c.in-Ok.ensures in
-    one_loaded c.args.shape.now (subject_of c.args.whole) (keys_of c.args.range) c.args.bytes.now c.loop-at.rest.now _ c.args.sum.now c.loop-at.sum _ c.loop-at.at c.loop-at.invariant some did.shorter did.added did.written
+    one_loaded c.args.shape.now (subject_of c.args.whole) (keys_of c.args.range) c.args.bytes.now c.loop-at.rest.now _ c.args.sum.now c.loop-at.sum _ c.loop-at.at c.loop-at.invariant some did.shorter c.add_next.ensures.kept did.added did.written
 
 pub returns-clause-added : goal.returns-clause-added
 returns-clause-added c =
@@ -45,3 +45,6 @@ returns-clause-written c =
     let room = c.loop-at.invariant.room in
     let none : length c.loop-at.rest.now ≡ 0 = omega (arith, room, end) in
     all_taken c.args.shape.now (subject_of c.args.whole) (keys_of c.args.range) c.args.bytes.now c.loop-at.rest.now c.args.sum.now c.loop-at.sum c.loop-at.at _ c.loop-at.invariant none (omega (arith, end))
+
+pub returns-in-Err-clause-kept : goal.returns-in-Err-clause-kept
+returns-in-Err-clause-kept c = c.in-Err.ensures.kept ∙ c.loop-at.invariant.kept

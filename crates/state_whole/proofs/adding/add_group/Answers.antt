@@ -2,12 +2,11 @@ use Rattle.std.proofs.Common.{◌≡◌, ◌+◌, ◌++◌, ◌∙◌, ◌∷◌
 use Rattle.std.proofs.lemmas.Result.{err_from_is_err_and}
 use Rattle.par_model.specs.declared.state.AggState.{AggState}
 use Rattle.par_model.specs.declared.state.SlotState.{SlotState}
-use Rattle.partial_agg.specs.Groups.{added}
 use Rattle.state_blocks.specs.Blocks.{tuple_bytes}
 use Rattle.state_blocks.proofs.Tuples.{made_of, tuple_read, tuple_some, tuple_written}
 use Rattle.state_lanes.specs.Lanes.{item_slots}
 use Rattle.state_order.specs.Order.{HasKeys}
-use Rattle.state_whole.specs.Adding.{key_of, state_of}
+use Rattle.state_whole.specs.Adding.{kept_with, key_of, state_of}
 use Rattle.state_whole.proofs.Adds.{added_more, key_none}
 use Rattle.state_whole.proofs.adding.add_group.Goals as goal
 
@@ -30,12 +29,13 @@ pub returns-clause-added : goal.returns-clause-added
 returns-clause-added c = λ start range groups g rest has is e.
     let shape = c.args.shape.now in
     let same = c.in-Some.ensures.written g.key g.rows g.slots rest is (tuple_written shape.kinds.now c.args.bytes.now rest g e) in
-    let state : AggState = record { rows = c.read_group.new.state.rows; slots = c.item_slots-state.result } in
+    let kinds = shape.kinds.now in
+    let state : AggState = record { rows = c.read_group.new.state.rows; slots = item_slots shape.lanes.now (take (length kinds) c.read_group.new.state.slots) shape.items.now } in
     let slots : item_slots shape.lanes.now (take (length shape.kinds.now) c.read_group.new.state.slots) shape.items.now ≡ item_slots shape.lanes.now g.slots shape.items.now = ap (λ (ss : List SlotState). item_slots shape.lanes.now ss shape.items.now) same.3 in
-    let made : state ≡ state_of shape g = (λ i. record { rows = same.2 i; slots = (c.item_slots-state.ensures ∙ slots) i }) in
-    let sum = c.in-Ok.ensures.ok ∙ ap (λ (k : List ℕ). added c.args.map.now k state) same.0 ∙ ap (λ (s : AggState). added c.args.map.now g.key s) made in
+    let made : state ≡ state_of shape g = (λ i. record { rows = same.2 i; slots = slots i }) in
+    let sum = c.in-Ok.ensures ∙ ap (λ (k : List ℕ). kept_with c.args.kept c.args.map.now k state) same.0 ∙ ap (λ (s : AggState). kept_with c.args.kept c.args.map.now g.key s) made in
     let next = subst (λ (k : List ℕ). HasKeys shape.columns range (map key_of groups ++ k ∷ []) c.next_key.new.order) same.0 (c.in_ok-next_key.ensures shape.columns range (map key_of groups) has.keys) in
-    (same.1, added_more shape range start groups g c.args.map.now c.add_bytes.new.self c.args.order.now c.next_key.new.order c.args.count.now _ has sum next refl (omega (arith, c.larger-count.ensures.first)) (omega (arith, c.larger-count.ensures.second, same.2)))
+    (same.1, added_more shape c.args.kept range start groups g c.args.map.now c.keep.new.map c.args.order.now c.next_key.new.order c.args.count.now _ has sum next refl (omega (arith, c.larger-count.ensures.first)) (omega (arith, c.larger-count.ensures.second, same.2)))
 
 pub returns-clause-shorter : goal.returns-clause-shorter
 returns-clause-shorter c =

@@ -1,0 +1,4 @@
+pub mod Lefts
+pub mod Joins
+pub mod Heads
+pub mod Behind

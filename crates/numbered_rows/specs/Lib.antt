@@ -1,0 +1,4 @@
+pub mod Numbers
+pub mod Front
+pub mod Left
+pub mod Law
