@@ -32,7 +32,7 @@ module _ (from : Option (List ℕ)) where
     where
       tells : (from : Option (List ℕ)) → IfSome from (λ bytes. (text : List ℕ) × IsTableText (Some asked) bytes text × Appends a b text) → IfSome from (λ bytes. outcome_over (of_bytes asked.reading) asked.plan bytes ≡ Table)
       tells None table = tt
-      tells (Some bytes) table = ap (λ (o : Option Query). outcome_over (of_bytes (unwrap_or o asked).reading) (unwrap_or o asked).plan bytes) table.1.is ∙ table.1.has_table
+      tells (Some bytes) table = ap (λ (o : Option Query). outcome_over (of_bytes (unwrap_or o asked).reading) (unwrap_or o asked).plan bytes) table.1.is ∙ table.1.over.has_table
 
   -- the reason of a query that was kept is one that it has
   pub why_kept : (asked : Option Query) (query : Query) (a b : Option (List ℕ)) (status ends : ℕ) (start said : List ℕ) (none_yet faults : ℕ) (old new : Option (List ℕ)) (before now : ℕ)

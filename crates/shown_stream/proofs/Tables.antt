@@ -45,7 +45,7 @@ plain_text how header rows text order limit csv is = record {
 module _ (how : How) (asked : Option Query) where
   plain : (bytes text : List ℕ) → how.order ≡ None → how.limit ≡ None → how.form ≡ written.Csv → IsTableText asked bytes text → IsShownOf how asked bytes text
   plain bytes text order limit csv table =
-      let are = answer_rows table.query.plan (records_in table.query.reading bytes) text table.is_text in
+      let are = answer_rows table.query.plan (records_in table.query.reading bytes) text table.over.is_text in
       record { header = are.0; rows = are.1; table = subst (λ (t : List ℕ). IsTableText asked bytes t) are.2 table; shown = plain_text how are.0 are.1 text order limit csv are.2 }
 
   pub plain_shown : (from old new : Option (List ℕ)) → how.order ≡ None → how.limit ≡ None → how.form ≡ written.Csv → IfSome from (λ bytes. (text : List ℕ) × IsTableText asked bytes text × Appends old new text)
@@ -65,13 +65,13 @@ module _ (how : How) (asked : Option Query) where
 
   whole : (bytes kept : List ℕ) (old new : Option (List ℕ)) → IsTableText asked bytes kept → PutsShown how kept old new → (text : List ℕ) × IsShownOf how asked bytes text × Appends old new text
   whole bytes kept old new table puts =
-      let are = answer_rows table.query.plan (records_in table.query.reading bytes) kept table.is_text in
+      let are = answer_rows table.query.plan (records_in table.query.reading bytes) kept table.over.is_text in
       let put = puts are.0 are.1 are.2 in
       (put.0, record { header = are.0; rows = are.1; table = subst (λ (t : List ℕ). IsTableText asked bytes t) are.2 table; shown = put.1 }, put.2)
 
   part : (bytes kept : List ℕ) (old new : Option (List ℕ)) → IsTableText asked bytes kept → PutsPart how kept old new → (text : List ℕ) × IsShownOf how asked bytes text × (n : ℕ) × Appends old new (take n text)
   part bytes kept old new table puts =
-      let are = answer_rows table.query.plan (records_in table.query.reading bytes) kept table.is_text in
+      let are = answer_rows table.query.plan (records_in table.query.reading bytes) kept table.over.is_text in
       let put = puts are.0 are.1 are.2 in
       (put.0, record { header = are.0; rows = are.1; table = subst (λ (t : List ℕ). IsTableText asked bytes t) are.2 table; shown = put.1 }, put.2, put.3)
 
