@@ -10,8 +10,9 @@ nothing of the program: `parstream partial` has to write the same bytes, and `pa
 bytes of their sum. `parstream finalize` of all that is left has to give the table of one pass, in one piece or by ranges, or to
 refuse the same row; with a part left out or twice the status is 9 or 8. Then files are damaged, 10,000 times at least. One with any bytes is refused. One
 whose checksums and foot were made anew is refused for the cause that is found here, or, if there is none, is a file that reads
-back as it is. The files of version 1 that are kept in bindings/tests/states come to what they came to when they were made, and heads
-that say how fields are read are refused. Ends with a line of what was tried, or with what is wrong.
+back as it is. The files of version 1 that are kept in bindings/tests/states come to what they came to when they were made. Half of the
+texts have another separator, nulls, or white space that is left out, and heads that say how fields are read in words that parstream does
+not take are refused. Ends with a line of what was tried, or with what is wrong.
 """
 import csv
 import io
@@ -80,10 +81,17 @@ def lanes_of(items):
     return list(dict.fromkeys((name, kind != "count") for kind, name in items if name is not None))
 
 
+# How fields are read: the separators by their words, and the texts of --null.
+SEPARATORS = {";": ";", "\t": "tab", "|": "|", ":": ":", " ": " ", "a": "a", "7": "7"}
+NULLS = ["NA", "NA,NULL,-", "7", "", "a,x y"]
+
+
 class Plan:
     """A plan's words, and what of a row it reads. A lane is a column with its numbers or without."""
 
-    def __init__(self, rng, columns, has_decimals=False):
+    separator, nulls, trim = ",", None, False
+
+    def __init__(self, rng, columns, has_decimals=False, has_reading=False):
         columns = columns + ["v"]
         self.groups = rng.choices(columns, k=rng.randint(0, 2))
         kinds = ["count", "sum", "min", "max", "avg"]
@@ -99,6 +107,20 @@ class Plan:
             else:
                 self.filters.append((name, rng.choice(["=", "!="]), rng.choice(["", "a", "x y"])))
         self.lanes = lanes_of(self.items)
+        if has_reading and rng.random() < 0.5:
+            self.separator = rng.choice([",", *SEPARATORS])
+            self.nulls = rng.choice([None, None, *NULLS])
+            self.trim = rng.random() < 0.3
+
+    def of_reading(self):
+        """The options that say how fields are read, each a name and its value."""
+        options = [("separator", SEPARATORS[self.separator])] if self.separator != "," else []
+        return options + [("null", self.nulls)] * (self.nulls is not None) + [("trim", None)] * self.trim
+
+    def read(self, value):
+        """A field as it is read."""
+        value = value.strip(" \t\n\r\f") if self.trim else value
+        return "" if self.nulls is not None and value in self.nulls.split(",") else value
 
     @classmethod
     def of(cls, groups, items, filters, decimals):
@@ -118,10 +140,12 @@ class Plan:
             words += ["--group", ",".join(self.groups)]
         if self.decimals:
             words += ["--decimals", self.decimals]
+        words += [f"--{name}" if value is None else f"--{name}={value}" for name, value in self.of_reading()]
         return words + [word for it in self.of_filters() for word in ("--where", it)]
 
     def head(self):
-        filters = b"".join(text(it.encode()) for it in self.of_filters())
+        said = ["=" + name if value is None else f"={name}={value}" for name, value in self.of_reading()]
+        filters = b"".join(text(it.encode()) for it in self.of_filters() + said)
         return b"".join(text(it) for it in (",".join(self.groups).encode(), self.of_items().encode(), filters, self.decimals.encode()))
 
     def places(self, name):
@@ -216,7 +240,7 @@ def bytes_of(head, blocks, starts_of, count):
 
 def states_of(plan, header, parts, sources):
     """The file of some parts, each a source, from, to, its size and the rows there. Those that touch become one."""
-    names = next(csv.reader(io.StringIO(header.decode(), newline="")))
+    names = list(map(plan.read, next(csv.reader(io.StringIO(header.decode(), newline=""), delimiter=plan.separator))))
     cover = []
     for source, start, end, size, rows in sorted(parts, key=lambda part: part[:2]):
         if cover and cover[-1][0] == source and cover[-1][2] == start:
@@ -388,11 +412,11 @@ def field(rng, name, places):
     return rng.choice(["", "a", "b", "a,b", "x\ny", 'q"r', "long" * rng.randint(0, 12), "7", "007", "é", "z\r\n,", "x y"])
 
 
-def written(row, end):
+def written(row, end, separator=","):
     def one(value):
-        return '"' + value.replace('"', '""') + '"' if any(c in value for c in ',"\n\r') else value
+        return '"' + value.replace('"', '""') + '"' if any(c in value for c in separator + '"\n\r') else value
 
-    line = ",".join(one(value) for value in row)
+    line = separator.join(one(value) for value in row)
     return (line if line else '""').encode() + end
 
 
@@ -411,14 +435,17 @@ def spoil(rng, names, rows):
 
 
 def source_of(rng, plan, names, end, is_bad, is_long):
-    """The rows of a source, and the bytes of each. A long one has more groups by column k than there is room for in a block."""
+    """The rows of a source as they are read, and the bytes of each. A long one has more groups by column k than there is room for in a block."""
     rows = [[field(rng, name, plan.places(name)) for name in names] for _ in range(1000 if is_long else rng.choice([0, 1, 3, 20, 200]))]
     for row in rows if is_long else []:
         row[names.index("k")] = f"{rng.randrange(10**9)} and more, to be a long key" * 3
     while rows and is_bad:
         spoil(rng, names, rows)
         is_bad = rng.random() < 0.5
-    return rows, [written(row, end) for row in rows]
+    for row in rows if plan.nulls or plan.trim else []:
+        at = rng.randrange(len(row))
+        row[at] = rng.choice([row[at], f" {row[at]}\t", *(["NA", " NULL ", "-", " "] if names[at % len(names)] not in "vw" else [])])
+    return [list(map(plan.read, row)) for row in rows], [written(row, end, plan.separator) for row in rows]
 
 
 class Program:
@@ -471,10 +498,11 @@ def one_text(rng, program, counts):
     rng.shuffle(names)
     is_long = counts["texts"] % 25 == 24
     end = rng.choice([b"\n", b"\r\n"])
-    header = written(names, end)
-    plan = Plan(rng, [name for name in names if name not in ("v", "w", "i,j")], True)
+    plan = Plan(rng, [name for name in names if name not in ("v", "w", "i,j")], True, True)
     if is_long:
         plan = Plan.of(["k"], plan.items, [], "")
+    header = written(names, end, plan.separator)
+    counts["readings"] += bool(plan.of_reading())
     sources = rng.choice([1, 1, 2, 4])
     files, whole, before = [], header, []
     is_bad = rng.random() < 0.4
@@ -691,10 +719,11 @@ def kept_files(program):
 
 
 def other_readings(program):
-    """Heads that say how fields are read are refused: what files come to is said of fields as they are, between commas."""
-    for said in ("=separator=;", "=separator=tab", "=null=NA,-", "=trim"):
+    """Heads that say how fields are read in words that parstream does not take, or have no column for them, are refused."""
+    others = (["=separator=;;"], ["=separator="], ['=separator="'], ["=trim", "=trim"], ["=trims"], ["=null=" + "," * 8], ["=separator=;"])
+    for said in others:
         plan = Plan.of(["k"], [("count", None)], [], "")
-        plan.of_filters = lambda said=said: [said]
+        plan.of_filters = lambda said=said: said
         data = states_of(plan, b"k,v\n", [(0, 0, 4, 4, [])], 1)
         for form in ("combine", "finalize"):
             done = program.run([form], data)
@@ -706,7 +735,7 @@ def main(words):
     program = Program(*(os.path.abspath(word) for word in (words[:1] + words[3:4])))
     seconds = float(words[1]) if len(words) > 1 else 40.0
     rng = random.Random(int(words[2]) if len(words) > 2 else 1)
-    counts = dict.fromkeys(["texts", "parts", "combines", "ranges", "refused", "of several blocks", "repaired", "files of them"], 0)
+    counts = dict.fromkeys(["texts", "parts", "combines", "ranges", "readings", "refused", "of several blocks", "repaired", "files of them"], 0)
     kept, end = [], time.monotonic() + seconds / 2
     while counts["texts"] < 60 or time.monotonic() < end:
         kept += [(data, plan) for data, plan in one_text(rng, program, counts) if len(data) < 1500]

@@ -13,7 +13,7 @@ mod progress;
 
 use input_hints::{Peeked, asked_of, refuse_input, refuse_words, tell};
 use par_io::{StdSink, StdSource};
-use par_stream::{NO_MEMORY, WINDOW_BYTES, say_usage};
+use par_stream::{NO_MEMORY, Separated, WINDOW_BYTES, say_usage};
 use progress::ProgressLine;
 use shown_stream::{
     refuse_options, shown_good, shown_input, shown_table, skip_of, take_options,
@@ -72,7 +72,7 @@ fn main(rt: HostRuntime) -> ExitCode {
         if let Some(status) = refuse_input(&mut peeked, &mut err) {
             return ExitCode::from(status);
         }
-        let mut source = TileSource::new(peeked);
+        let mut source = TileSource::new(Separated::new(peeked));
         let status = partial_states(
             &rt,
             rt.alloc(),

@@ -157,8 +157,8 @@ fn make_asked<R: Threads + Wait + Sync, S: Source, P: Progress>(
     ensures file { IfOk result (λ file. (words : List (List ℕ)) → asked_in words ≡ Some (asked_of asked.now) → IfSome (source_left (bare_left S.left) source.old) (λ bytes. IsPartText words bytes file.items)) }
     ensures why { IfErr result (λ why. (words : List (List ℕ)) → asked_in words ≡ Some (asked_of asked.now) → IsNoPart words (source_left (bare_left S.left) source.old) (lacks source.new) why) }
     ensures read_fault { IfErr result (λ why. why ≡ no_part.Stopped stop.ReadFault → Rose (source_faults (bare_faults S.faults) source.old) (source_faults (bare_faults S.faults) source.new)) }
-    ensures short { IfErr result (λ why. why ≡ no_part.Short → Rose (source_faults (bare_faults S.faults) source.old) (source_faults (bare_faults S.faults) source.new)
-        ⊎ ((words : List (List ℕ)) → asked_in words ≡ Some (asked_of asked.now) → AskForTile IsShorter words (source_left (bare_left S.left) source.old))) }
+    ensures short { IfErr result (λ why. (words : List (List ℕ)) → asked_in words ≡ Some (asked_of asked.now) → why ≡ no_part.Short
+        → Rose (source_faults (bare_faults S.faults) source.old) (source_faults (bare_faults S.faults) source.new) ⊎ AskForTile IsShorter words (source_left (bare_left S.left) source.old)) }
     ensures no_write { IfErr result (λ why. (why ≡ no_part.Stopped stop.WriteFault) → ⊥) }
 {
     let plan = match plan_of(alloc, asked) {
