@@ -19,7 +19,7 @@ ROWS = [
     ("--agg count", b"", b"", b"parstream: no header\n", 2),
     ("--agg count", b"\n\r\n", b"", b"parstream: no header\n", 2),
     ("--group 3 --agg count", b"a,1\n", b"", b'parstream: no column "3"; the header has 2: "1" "2"\n', 2),
-    ("--group 1 --agg sum:2", b"a,1\nb,x\n", b"", b'parstream: row 2 (line 2): column "2" is not an integer: "x"\n', 1),
+    ("--group 1 --agg sum:2", b"a,1\nb,x\n", b"", b'parstream: row 2 (line 2): column "2" is not an integer: "x"; see --null\n', 1),
     ("--group 1 --agg sum:2", b"a,1\nb\n", b"", b"parstream: row 2 (line 2): wrong number of fields: 1, the header has 2\n", 1),
     ("--agg sum:2 --separator 1", b"5,012\n713\n", b"sum(2)\n5\n", b"", 0),
     ("--group 1 --agg sum:2 --separator 1", b"a12\n", b"1,sum(2)\na,2\n", b"", 0),

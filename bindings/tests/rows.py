@@ -22,7 +22,7 @@ STREAMS = [
         b"v\n1\n",
         b"",
         b'parstream: "mean:v" is not understood: --agg takes one to eight of count, count:C, sum:C, min:C, max:C and avg:C'
-        b" between commas; see parstream --help\n",
+        b" between commas, without spaces; see parstream --help\n",
         2,
     ),
     (
