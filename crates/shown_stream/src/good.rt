@@ -170,9 +170,10 @@ fn end_good<O: Sink, E: Sink>(
         return Stop::Memory.end(err);
     }
     let ends = end_kept(alloc, status, table, said, how, out, err);
-    if ends == TABLE {
-        say_some(err, said.as_slice());
+    if ends != TABLE {
+        return ends;
     }
+    say_some(err, said.as_slice());
     ends
 }
 
