@@ -15,9 +15,7 @@ use input_hints::{Peeked, asked_of, refuse_input, refuse_words, tell};
 use par_io::{StdSink, StdSource};
 use par_stream::{NO_MEMORY, Separated, WINDOW_BYTES, say_usage};
 use progress::ProgressLine;
-use shown_stream::{
-    refuse_options, shown_good, shown_input, shown_table, skip_of, take_options,
-};
+use shown_stream::{refuse_options, shown_good, shown_input, shown_table, skip_of, take_options};
 use state_forms::{form_of, run_form};
 use state_partial::{part_words, partial_states};
 use std::env::Env;

@@ -33,8 +33,10 @@ pub returns-clause-told : goal.returns-clause-told
 returns-clause-told g c = λ is.
     let kept = c.good_table-status in
     let said = c.new-said.result in
-    let told = kept.ensures.told (c.end_good.ensures.table is).0 in
-    (told.0, told.1,
-    says_kept told.0 said.bytes.items kept.new.err.bytes.items said.faults kept.new.err.faults (g.E.Sink.taken c.args.err.now) (g.E.Sink.taken c.end_good.new.err)
-    (g.E.Sink.faults c.args.err.now) (g.E.Sink.faults c.end_good.new.err) c.new-said.ensures.none c.new-said.ensures.faults (c.end_good.ensures.whole is) told.2 (c.end_good.ensures.told is),
-    λ none. c.end_good.ensures.quiet is (ap (λ t. t.bytes.items) (told.3 none) ∙ c.new-said.ensures.none))
+    let told = kept.ensures.told (c.end_good.ensures.table is).0 in (
+      told.0,
+      told.1,
+      says_kept told.0 said.bytes.items kept.new.err.bytes.items said.faults kept.new.err.faults (g.E.Sink.taken c.args.err.now) (g.E.Sink.taken c.end_good.new.err)
+          (g.E.Sink.faults c.args.err.now) (g.E.Sink.faults c.end_good.new.err) c.new-said.ensures.none c.new-said.ensures.faults (c.end_good.ensures.whole is) told.2 (c.end_good.ensures.told is),
+      λ none. c.end_good.ensures.quiet is (ap (λ t. t.bytes.items) (told.3 none) ∙ c.new-said.ensures.none),
+    )
