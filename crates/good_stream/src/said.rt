@@ -4,7 +4,7 @@ ghost use Rattle.std.specs.Prelude.{◌≡◌, map};
 ghost use Rattle.std.specs.List.{concat};
 ghost use Rattle.answer_text.specs.Lines.{IsSaid};
 ghost use Rattle.stream_groups.specs.Lines.{line};
-ghost use Rattle.good_stream.specs.Said.{left_out_text};
+ghost use Rattle.good_stream.specs.Said.{left_out_text, left_out_text_of};
 
 use answer_text::write_pieces;
 use good_groups::LeftOut;
@@ -30,16 +30,28 @@ fn pieces<'a>(
     ensures { concat (map (λ piece. piece.now) result) ≡ line (left_out_text left_out.now) }
 {
     let first = &left_out.first;
+    of_texts(
+        count.format(left_out.count),
+        row.format(first.row),
+        at.format(first.line),
+        first.said.as_str(),
+    )
+}
+
+/// The same of numbers as digits.
+fn of_texts<'a>(count: &'a str, row: &'a str, at: &'a str, said: &'a str) -> [&'a str; 10]
+    ensures { concat (map (λ piece. piece.now) result) ≡ line (left_out_text_of count.now row.now at.now said.now) }
+{
     [
         "parstream: ",
-        count.format(left_out.count),
+        count,
         " rows left out; the first: ",
         "row ",
-        row.format(first.row),
+        row,
         " (line ",
-        at.format(first.line),
+        at,
         "): ",
-        first.said.as_str(),
+        said,
         "\n",
     ]
 }

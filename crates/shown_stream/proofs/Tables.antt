@@ -14,7 +14,7 @@ use Rattle.table_form.specs.declared.form.Form.TheVariants as written
 use Rattle.table_order.specs.Shown.{AreOrdered, first_of}
 use Rattle.table_order.specs.declared.order.Order.{Order}
 use Rattle.shown_stream.specs.Ended.{PutsPart, PutsShown}
-use Rattle.shown_stream.specs.Shown.{IsFormText, IsShownOf, shown_by}
+use Rattle.shown_stream.specs.Shown.{IsFormText, IsShownOf}
 use Rattle.shown_stream.specs.declared.how.ByColumn.{ByColumn}
 use Rattle.shown_stream.specs.declared.how.How.{How}
 

@@ -1,5 +1,5 @@
 //! What crosses threads: a struct over shelves by reference, and a struct over passes by value, generic or not. At the
-//! end both shelves are closed, with no list of the passes of each.
+//! end a shelf is closed, with no list of its passes.
 
 ghost use Rattle.std.specs.Prelude.{◌≡◌, [], ◌∷◌};
 ghost use Rattle.lock_book.specs.Shown.{Belongs, Ended, callers_of, number_of};
@@ -54,27 +54,6 @@ pub fn end_two<T: Kept>(shelf: Shelf<T>, zero: Pass<T>, one: Pass<T>) -> Closed<
     let last = Joined::new(&shelf, one);
     let all = last.join(&shelf, zero);
     shelf.close_joined(all)
-}
-
-/// Ends both shelves of a cabinet of two callers. It takes no memory.
-pub fn close_both<O: Tag>(
-    cabinet: Cabinet<O>,
-    zero: CabinetPass<O>,
-    one: CabinetPass<O>,
-) -> (Closed<Counter>, Closed<Numbered<O>>)
-    requires callers { (callers_of cabinet.tallies ≡ 2) × (callers_of cabinet.drawers ≡ 2) }
-    requires zero_own { Belongs cabinet.tallies zero.tallies × Belongs cabinet.drawers zero.drawers }
-    requires one_own { Belongs cabinet.tallies one.tallies × Belongs cabinet.drawers one.drawers }
-    requires zero { (number_of zero.tallies ≡ 0) × (number_of zero.drawers ≡ 0) }
-    requires one { (number_of one.tallies ≡ 1) × (number_of one.drawers ≡ 1) }
-    ensures tallies { Ended cabinet.tallies (zero.tallies ∷ one.tallies ∷ []) result.0 }
-    ensures drawers { Ended cabinet.drawers (zero.drawers ∷ one.drawers ∷ []) result.1 }
-{
-    let Cabinet { tallies, drawers } = cabinet;
-    (
-        end_two(tallies, zero.tallies, one.tallies),
-        end_two(drawers, zero.drawers, one.drawers),
-    )
 }
 
 /// A tag: the number 1.

@@ -32,7 +32,7 @@ pub use asks::{Answer, Ask, Call, DrawerName, Reply};
 #[cfg(test)]
 pub use counter::Counter;
 #[cfg(test)]
-pub use crossing::{Cabinet, CabinetPass, Lent, One, close_both, cross, end_two};
+pub use crossing::{Cabinet, CabinetPass, Lent, One, cross, end_two};
 pub use drawer::Drawer;
 #[cfg(test)]
 pub use guarded::{Guarded, Object, advance, called_by_two, called_once};

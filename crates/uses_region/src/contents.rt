@@ -1,12 +1,12 @@
-//! A table that is filled to its last byte, and a caller of all calls.
+//! A table of the estimated size that is filled in a loop, and a caller of all calls.
 
-ghost use Rattle.std.specs.Prelude.{◌≡◌, ◌/◌, ◌<◌, ◌≤◌, ◌^◌, ℕ, Some, IsSome, IfOk, All, length};
+ghost use Rattle.std.specs.Prelude.{◌≡◌, ◌/◌, ◌<◌, ◌≤◌, ◌^◌, ℕ, Some, IsSome, All, length};
 ghost use Rattle.word_map.specs.WordMap.{at as word_at, HasJust};
 ghost use Rattle.shm_toc.specs.Table.{estimated, table_of};
 
 use region_words::{Part, Region};
 use rel_pointer::RelPtr;
-use shm_toc::{FrozenToc, Toc, TocAnswer, estimate, serves_in_any_order};
+use shm_toc::{FrozenToc, Toc, estimate, serves_in_any_order};
 use std::test::Fail;
 
 /// Writes a word into a chunk, and reads it through a share of the frozen table.
@@ -44,22 +44,6 @@ fn first_words(r: &Region, part: &mut Part, words: u64) -> Part
     part.split(r, 0, words)
 }
 
-/// A table of 192 bytes, with three chunks and two entries.
-fn filled(r: &Region, part: Part) -> Result<Toc, TocAnswer>
-    requires here { part.region ≡ r.now }
-    requires owns { HasJust part.words 0 24 }
-    ensures { IfOk result (λ toc. toc.region ≡ r.now) }
-{
-    let mut toc = Toc::create(r, part, 24, 7);
-    let first = toc.allocate(r, 33)?;
-    toc.insert(r, 5, first.at)?;
-    let second = toc.allocate(r, 10)?;
-    toc.insert(r, 6, second.at)?;
-    let _third = toc.allocate(r, 32)?;
-    toc.keep(r, second);
-    Ok(toc)
-}
-
 /// Makes a table of the estimated size and fills it: a chunk of each size, and after it the chunk's place under the
 /// size's number. No call refuses, since the table provides for all that is still to come.
 fn table_of_chunks(r: &Region, part: Part, sizes: &[u64], magic: u64) -> Toc
@@ -85,34 +69,6 @@ fn table_of_chunks(r: &Region, part: Part, sizes: &[u64], magic: u64) -> Toc
 }
 
 #[test]
-fn a_table_of_the_estimated_size_is_filled(rt: HostRuntime) -> Result<(), Fail> {
-    assert_eq!(rt; estimate(&[10, 32, 33], 2), 192);
-    let (region, mut part) = Region::new(rt.alloc(), 64)?;
-    let words = first_words(&region, &mut part, 24);
-    let mut toc = filled(&region, words).expect(&rt, "room for all");
-    assert_eq!(rt; toc.free_bytes(), 0);
-    let full = toc.insert(&region, 7, RelPtr::of(8)).err();
-    assert!(rt;
-        full == Some(TocAnswer::TocFull {
-            wanted: 16,
-            free: 0
-        })
-    );
-    let there = toc.insert(&region, 5, RelPtr::of(8)).err();
-    assert!(rt; there == Some(TocAnswer::KeyThere { at: RelPtr::of(16) }));
-    let mut toc = toc.freeze(&region);
-    assert!(rt; FrozenToc::attach(toc.share(&region), &region, 8).is_err());
-    let share = toc.share(&region);
-    let mut reader = FrozenToc::attach(share, &region, 7)
-        .ok()
-        .expect(&rt, "the magic number");
-    assert!(rt; reader.lookup(&region, 5) == Some(RelPtr::of(16)));
-    assert!(rt; reader.lookup(&region, 6) == Some(RelPtr::of(12)));
-    assert!(rt; reader.lookup(&region, 7) == None);
-    Ok(())
-}
-
-#[test]
 fn a_word_is_read_through_a_share(rt: HostRuntime) -> Result<(), Fail> {
     let (region, mut part) = Region::new(rt.alloc(), 64)?;
     let words = first_words(&region, &mut part, 12);
@@ -122,6 +78,7 @@ fn a_word_is_read_through_a_share(rt: HostRuntime) -> Result<(), Fail> {
 
 #[test]
 fn a_table_is_filled_in_a_loop(rt: HostRuntime) -> Result<(), Fail> {
+    assert_eq!(rt; estimate(&[10, 32, 33], 2), 192);
     let sizes = [40, 8, 100];
     let (region, mut part) = Region::new(rt.alloc(), 64)?;
     let words = first_words(&region, &mut part, 40);

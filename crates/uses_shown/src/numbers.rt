@@ -1,7 +1,7 @@
 //! What no clause says: that the reads of a table behind its header succeed, and how their bytes read.
 
 use numbered_rows::Numbered;
-use par_io::{MemSource, Source};
+use par_io::{MemSource, read_whole};
 use std::test::Fail;
 
 /// A table, the byte between two fields, and what a source gives of it that is asked for numbers.
@@ -26,14 +26,10 @@ fn numbers(rt: HostRuntime) -> Result<(), Fail> {
         let bytes = Vec::from_slice(rt.alloc(), table)?;
         let source = MemSource::new(bytes, 3, Vec::new(rt.alloc()));
         let mut numbered = Numbered::new(rt.alloc(), source, Some(separator));
-        let mut buf = [0u8; 64];
-        let mut at = 0;
-        for _ in 0..40u8 {
-            if at < 64 {
-                at += numbered.read(&mut buf[at..]).ok().ok_or("a read")?;
-            }
-        }
-        assert_eq!(rt; &buf[..at], wanted);
+        let given = read_whole(rt.alloc(), &mut numbered, 64)
+            .ok()
+            .ok_or("a read")?;
+        assert_eq!(rt; given.as_slice(), wanted);
     }
     Ok(())
 }

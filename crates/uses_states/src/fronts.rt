@@ -1,6 +1,6 @@
-//! Worked bytes of the first line and a head, and bytes that begin otherwise.
+//! Worked bytes of the first line and a head.
 
-use state_front::{FrontFault, push_front, read_front};
+use state_front::{push_front, read_front};
 use state_head::{Head, KeyRange, PlanWords, Whole};
 use std::test::Fail;
 
@@ -38,9 +38,5 @@ fn fronts(rt: HostRuntime) -> Result<(), Fail> {
     };
     assert!(rt; read.at == 46 && read.rest == b"more".as_slice());
     assert!(rt; read.head.whole.header == b"k,v\n".as_slice());
-    let none = read_front(rt.alloc(), b"parstream table 1\n").err();
-    assert!(rt; none == Some(FrontFault::NoStates));
-    let other = read_front(rt.alloc(), b"parstream states 12\n").err();
-    assert!(rt; other == Some(FrontFault::OtherVersion));
     Ok(())
 }

@@ -1,4 +1,4 @@
-//! Worked bytes of slots and groups, and bytes that no rows give.
+//! Worked bytes of slots and groups.
 
 use par_model::{AggState, NO_VALUES, SlotState};
 use state_groups::{push_group, push_slot, read_group, read_slot};
@@ -39,29 +39,8 @@ const SLOTS: [(SlotState, &[u8]); 4] = [
     ),
 ];
 
-/// Bytes that are no slot of at most 2 rows: too many values, a sum that two integers of 64 bits do not have, a least and a
-/// greatest that are none, a number that is cut off.
-const NO_SLOTS: [&[u8]; 5] = [
-    &[3],
-    &[1, 130, 128, 128, 128, 128, 128, 128, 128, 128, 2, 0, 0],
-    &[1, 0, 128, 128, 128, 128, 128, 128, 128, 128, 128, 2, 0],
-    &[1, 0, 0, 128, 128, 128, 128, 128, 128, 128, 128, 128, 2],
-    &[2, 6, 2],
-];
-
 /// The group of three rows with the column `a`, of which two have the integers 1 and 2.
 const GROUP: [u8; 11] = [5, 1, 0, 0, 0, b'a', 3, 2, 6, 2, 1];
-
-/// Bytes that are no group of one column and one lane of integers: keys of no and of two columns, a column that is cut
-/// off, no rows, more values than rows, a slot that is cut off.
-const NO_GROUPS: [&[u8]; 6] = [
-    &[0, 3, 0],
-    &[9, 1, 0, 0, 0, b'a', 0, 0, 0, 0, 3, 0],
-    &[5, 2, 0, 0, 0, b'a', 3, 0],
-    &[5, 1, 0, 0, 0, b'a', 0, 0],
-    &[5, 1, 0, 0, 0, b'a', 1, 2, 6, 2, 1],
-    &[5, 1, 0, 0, 0, b'a', 3, 2, 6, 2],
-];
 
 /// A state of no rows.
 const NONE: AggState = AggState {
@@ -71,9 +50,6 @@ const NONE: AggState = AggState {
 
 #[test]
 fn slots(rt: HostRuntime) -> Result<(), Fail> {
-    for bytes in NO_SLOTS {
-        assert!(rt; read_slot(bytes, true, 2).is_none());
-    }
     for (slot, bytes) in SLOTS {
         let mut out = Vec::new(rt.alloc());
         push_slot(&mut out, true, &slot)?;
@@ -101,8 +77,5 @@ fn groups(rt: HostRuntime) -> Result<(), Fail> {
     };
     assert!(rt; key == &GROUP[1..6] && rest.is_empty());
     assert!(rt; state.rows == 3 && state.slots[0] == ONE_AND_TWO);
-    for bytes in NO_GROUPS {
-        assert!(rt; read_group(bytes, 1, &[true], &mut state).is_none());
-    }
     Ok(())
 }

@@ -1,4 +1,4 @@
-//! Callers of the crates of the files of states: worked bytes of each part of a file, and bytes that are none. A module for
+//! Callers of the crates of the files of states: worked bytes of each part of a file. A module for
 //! each crate. No other crate depends on it.
 
 #![tactic(auto)]

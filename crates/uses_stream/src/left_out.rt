@@ -19,7 +19,7 @@ type Row = (
     &'static str,
 );
 
-const BAD: &str = "g,v\na,1\nb,x\n\na,2\nc\n";
+const BAD: &str = "g,v\na,1\nb,1x\n\na,2\nc\n";
 
 const ROWS: [Row; 14] = [
     // as many as there are, or fewer
@@ -29,7 +29,7 @@ const ROWS: [Row; 14] = [
         BAD,
         0,
         "g,count,sum(v)\na,2,3\n",
-        ": 2 rows left out; the first: row 2 (line 3): column \"v\" is not an integer: \"x\"\n",
+        ": 2 rows left out; the first: row 2 (line 3): column \"v\" is not an integer: \"1x\"\n",
     ),
     (
         "--group g --agg count,sum:v",
@@ -37,7 +37,7 @@ const ROWS: [Row; 14] = [
         BAD,
         1,
         "",
-        ": row 2 (line 3): column \"v\" is not an integer: \"x\"\n",
+        ": row 2 (line 3): column \"v\" is not an integer: \"1x\"\n",
     ),
     (
         "--agg sum:v",
@@ -45,7 +45,7 @@ const ROWS: [Row; 14] = [
         BAD,
         1,
         "",
-        ": row 2 (line 3): column \"v\" is not an integer: \"x\"\n",
+        ": row 2 (line 3): column \"v\" is not an integer: \"1x\"\n",
     ),
     // none, and a row that a filter leaves out is none of them
     ("--agg sum:v", 5, "g,v\na,1\n", 0, "sum(v)\n1\n", ""),
@@ -85,12 +85,12 @@ const ROWS: [Row; 14] = [
         ": 1 rows left out; the first: row 1 (line 2): column \"v\" is not an integer: \"1,5\"\n",
     ),
     (
-        "--agg count:v --null NA --trim",
+        "--agg sum:v --null NA --trim",
         1,
-        "v\r\n NA\r\nx\r\n 3 \r\n",
+        "v\r\n NA\r\n 1x\r\n 3 \r\n",
         0,
-        "count(v)\n1\n",
-        ": 1 rows left out; the first: row 2 (line 3): column \"v\" is not an integer: \"x\"\n",
+        "sum(v)\n3\n",
+        ": 1 rows left out; the first: row 2 (line 3): column \"v\" is not an integer: \"1x\"\n",
     ),
     // other reasons
     ("--agg sum:v", 3, "", 2, "", ": no header\n"),
