@@ -14,6 +14,11 @@ use Rattle.good_groups.specs.Counted.{HasCounted, IsFirst}
 use Rattle.good_groups.specs.Opened.{Opened}
 use Rattle.good_groups.specs.declared.tally.Tally.{Tally}
 
+-- a refused row, counted from a later one on
+abbrev pub later_by : ℕ → ℕ × Refusal → ℕ × Refusal
+later_by k r = (r.0 + k, r.1)
+
+enumerate_apart : (n : ℕ) (xs ys : Table) → enumerate_from n (xs ++ ys) ≡ enumerate_from n xs ++ enumerate_from (n + length xs) ys
 enumerate_apart n [] ys = ap (λ (k : ℕ). enumerate_from k ys) (omega arith)
 enumerate_apart n (x ∷ xs) ys =
     let same : n + 1 + length xs ≡ n + length (x ∷ xs) = omega arith in

@@ -1,3 +1,6 @@
 mod Pieces
 mod Texts
 mod Counting
+mod Rows
+mod Steps
+mod Ends

@@ -3,7 +3,7 @@ use Rattle.std.proofs.Common.{◌≡◌, ◌≢◌, ◌⊎◌, inl, inr, ◌<◌
 use Rattle.std.specs.Prelude.{option_map}
 use Rattle.std.specs.Io.KnownBytes.{Consumes, IsAtEnd, prepend_known}
 use Rattle.std.proofs.lemmas.List.Elements.{All-cons, All-nil}
-use Rattle.csv_rows.specs.Cuts.{IsCut}
+use Rattle.csv_rows.specs.Cuts.{IsCut, ends_quoted}
 use Rattle.csv_rows.specs.Places.{place_after}
 use Rattle.csv_rows.specs.Readings.{records_as}
 use Rattle.csv_rows.specs.declared.cleaning.Reading.{Reading}
@@ -14,16 +14,37 @@ use Rattle.row_blocks.specs.Blocks.{Table}
 use Rattle.row_windows.specs.Seams.{BeginsLine, IsSeam, is_line_end}
 use Rattle.row_windows.specs.Stretch.{Fills, Stretch}
 use Rattle.text_lines.specs.Feeds.{count_feeds}
+use Rattle.text_lines.proofs.Parts.{no_mark}
 use Rattle.good_rows.specs.Judging.{GoesOn}
 use Rattle.good_rows.specs.Lines.{IsBegun, ends_here, left_of, line_left}
-use Rattle.good_rows.proofs.Left.{begins_one, begun_cut}
+use Rattle.good_rows.proofs.Left.{begins_one}
 use Rattle.stream_groups.specs.Begins.{AllCut, AreCut, lines_of}
 use Rattle.stream_groups.specs.Reading.{ArePart, Begins, HasPart, HasRead}
-use Rattle.stream_groups.proofs.Batches.{read_longer}
 use Rattle.stream_groups.proofs.ReadAs.{as_add_up}
-use Rattle.stream_groups.proofs.Windows.{filled}
+use Rattle.stream_groups.proofs.Windows.{begins_longer, filled}
+
+-- outside quotes, a line is cut at its end
+pub begun_cut : (line : List ℕ) (p : Place) → IsBegun line p → p ≢ place.Quoted → IsCut line
+begun_cut line p b apart = ap ends_quoted (no_mark line b.begins) ∙ scan-cut line (λ quoted. apart (b.place ∙ quoted))
 
 -- ---- a line goes on
+
+-- what is read on into the rest is read
+read_longer : (reading : Reading) (from old new : Option (List ℕ)) (records : Table) (feeds : ℕ) (was rest : List ℕ) → HasRead reading from old records feeds was → Fills old new was rest → HasRead reading from new records feeds rest
+read_longer reading None old new records feeds was rest read f = tt
+read_longer reading (Some bytes) None new records feeds was rest read f = absurd read
+read_longer reading (Some bytes) (Some old) None records feeds was rest read f = absurd f.1
+read_longer reading (Some bytes) (Some old) (Some new) records feeds was rest read f =
+    let left : was ++ old ≡ rest ++ new = ap (λ (l : List ℕ). was ++ l) f.1 ∙ (sym (append_assoc was f.0 new) ∙ ap (λ (l : List ℕ). l ++ new) (sym f.2)) in
+    record {
+      front = read.front;
+      are = read.are ∙ ap (λ (l : List ℕ). read.front ++ l) left;
+      is = read.is;
+      feeds = read.feeds;
+      whole = read.whole;
+      begins = elim read.begins [ inl none ↦ inl none | inr line ↦ inr (subst BeginsLine (sym f.2) (begins_longer was f.0 line)) ];
+      parts = read.parts ∙ ap (λ (l : List ℕ). records ++ records_as reading l) left;
+    }
 
 pub moved_left : (k : List ℕ → Bool) (ahead pending line : List ℕ) (p q : Place) (at : ℕ) (left : Option (List ℕ)) → GoesOn p pending at q
     → prepend_known ahead (option_map (left_of k p line) (prepend_known pending left)) ≡ prepend_known ahead (option_map (left_of k q (line ++ take at pending)) (prepend_known (drop at pending) left))

@@ -1,7 +1,8 @@
 -- A source of which some lines are left out.
 use Rattle.std.specs.Prelude.{◌≡◌, ℕ, List, None, Option, Some}
+use Rattle.std.specs.Borrow.{GName}
 use Rattle.good_groups.specs.Counted.{AreRules}
-use Rattle.good_groups.specs.Opened.{Opened}
+use Rattle.good_groups.specs.Opened.{Start, opened}
 use Rattle.good_groups.specs.Sifting.{IsSifting}
 use Rattle.good_groups.specs.declared.sifter.Rules.{Rules}
 use Rattle.good_groups.specs.declared.sieve.Sifting.{Sifting}
@@ -11,7 +12,7 @@ pub record Seen : Type 0 where
   pub left : Option (List ℕ)
   pub faults : ℕ
 
--- it is one of a reading that was opened, and its source has this left
-abbrev pub IsSieve : Option Opened → Option (List ℕ) → Rules → Sifting → Type 0
-IsSieve None left r s = ⊥
-IsSieve (Some o) left r s = AreRules o r × IsSifting o left r s
+-- it is one of a reading that began, over the source to which this reference leads, and which has this left
+abbrev pub IsSieve : Option Start → GName → Option (List ℕ) → Rules → Sifting → Type 0
+IsSieve None name left r s = ⊥
+IsSieve (Some start) name left r s = (name ≡ start.name) × (header : List (List ℕ)) × AreRules (opened start header) r × IsSifting (opened start header) left r s

@@ -18,5 +18,3 @@ mod tally;
 pub use origin::Origin;
 pub use reading::{GoodGroups, LeftOut, read_good};
 
-#[cfg(test)]
-mod tests;

@@ -1,5 +1,16 @@
 //! The groups of the good rows.
 
+ghost use Rattle.std.specs.Prelude.{◌≡◌, ◌≤◌, ℕ, List, Option, IfErr, IfOk, IfSome, Some};
+ghost use Rattle.par_io.specs.Faults.{Rose};
+ghost use Rattle.stream_groups.specs.Reading.{AreGroupsOver};
+ghost use Rattle.stream_groups.specs.Sources.{bare_faults, bare_left};
+ghost use Rattle.stream_groups.specs.Stops.{Tells};
+ghost use Rattle.stream_groups.specs.Ways.{of_bytes, of_text};
+ghost use Rattle.stream_groups.specs.declared.stop.Stop.TheVariants as stop;
+ghost use Rattle.good_groups.specs.Good.{IsLeftOut, good_way};
+ghost use Rattle.good_groups.specs.Sieve.{IsSieve};
+ghost use Rattle.good_groups.specs.Sifting.{sifting_left};
+
 use crate::bytes::Bytes;
 use crate::origin::Origin;
 use crate::piece::Piece;
@@ -8,7 +19,6 @@ use crate::sifter::{Rules, Sifter};
 use crate::tally::Tally;
 use csv_rows::Place;
 use par_io::Source;
-use par_model::BoundPlan;
 use plan_spec::{MOST_WORKERS, Plan};
 use std::alloc::{AllocError, Global};
 use std::marker::{Brand, PhantomData};
@@ -35,8 +45,9 @@ pub struct GoodGroups {
 /// The most bytes of the first window, unless a record is longer.
 const FIRST_BYTES: usize = 4096;
 
-/// Reads the whole source as `read_input` does, but leaves out rows that are refused, if there are at most so many. If there are
-/// more the reason is the first row that is refused, as without.
+/// Reads the whole source as `read_input` of `stream_groups` does, but leaves out the rows that are refused, if there are at
+/// most so many of them. If there are more the reason is the first one, as it is without. Each line is judged in the caller's
+/// thread, as it is read, with the memory of its fields.
 pub fn read_good<R: Threads + Wait + Sync, S: Source, P: Progress>(
     rt: &R,
     alloc: Global,
@@ -47,13 +58,21 @@ pub fn read_good<R: Threads + Wait + Sync, S: Source, P: Progress>(
     size: usize,
     progress: &mut P,
 ) -> Result<GoodGroups, Stop>
+    requires workers { workers ≤ MOST_WORKERS }
+    ensures groups { IfOk result (λ g. AreGroupsOver (good_way (of_bytes plan.now.reading) plan.now) plan.now (bare_left S.left source.old) g.groups) }
+    ensures left_out { IfOk result (λ g. IsLeftOut (of_bytes plan.now.reading) plan.now most (bare_left S.left source.old) g.left_out) }
+    ensures why { IfErr result (Tells (of_bytes plan.now.reading) plan.now (bare_left S.left source.old)) }
+    ensures read_fault { IfErr result (λ why. why ≡ stop.ReadFault → Rose (bare_faults S.faults source.old) (bare_faults S.faults source.new)) }
+    ensures no_write { IfErr result (λ why. (why ≡ stop.WriteFault) → ⊥) }
 {
     source.separate(plan.reading().separator);
-    read_text(rt, alloc, plan, workers, most, source, size, progress)
+    read_text::<R, Separated<S>, P, Brand>(
+        rt, alloc, plan, workers, most, source, size, progress,
+    )
 }
 
 /// The same of a text in which the comma and the plan's separator are exchanged.
-fn read_text<R: Threads + Wait + Sync, S: Source, P: Progress>(
+fn read_text<R: Threads + Wait + Sync, S: Source, P: Progress, I: Origin>(
     rt: &R,
     alloc: Global,
     plan: &Plan,
@@ -62,35 +81,52 @@ fn read_text<R: Threads + Wait + Sync, S: Source, P: Progress>(
     source: &mut S,
     size: usize,
     progress: &mut P,
-) -> Result<GoodGroups, Stop> {
+) -> Result<GoodGroups, Stop>
+    requires workers { workers ≤ MOST_WORKERS }
+    requires start { I.start ≡ Some (record { query = plan.now; most = most; from = S.left source.now; name = source.ghost_name }) }
+    ensures groups { IfOk result (λ g. AreGroupsOver (good_way (of_text plan.now.reading) plan.now) plan.now (S.left source.old) g.groups) }
+    ensures left_out { IfOk result (λ g. IsLeftOut (of_text plan.now.reading) plan.now most (S.left source.old) g.left_out) }
+    ensures why { IfErr result (Tells (of_text plan.now.reading) plan.now (S.left source.old)) }
+    ensures read_fault { IfErr result (λ why. why ≡ stop.ReadFault → Rose (S.faults source.old) (S.faults source.new)) }
+    ensures no_write { IfErr result (λ why. (why ≡ stop.WriteFault) → ⊥) }
+{
     let mut taken = Taken::Bytes(0);
-    let first = first_window(rt, alloc, plan.reading(), source, size.min(FIRST_BYTES), &mut taken)?;
+    let size = size.min(FIRST_BYTES);
+    let first = first_window(rt, alloc, plan.reading(), source, size, &mut taken)?;
     let bound = bind(alloc, plan, &first.header)?;
-    read_rows::<R, S, P, Brand>(rt, alloc, plan, &bound, workers, most, source, &first, size, progress)
-}
-
-/// The same after the first window.
-fn read_rows<'x, R: Threads + Wait + Sync, S: Source, P: Progress, I: Origin>(
-    rt: &R,
-    alloc: Global,
-    plan: &'x Plan,
-    bound: &'x BoundPlan,
-    workers: u32,
-    most: u64,
-    source: &'x mut S,
-    first: &'x First,
-    size: usize,
-    progress: &mut P,
-) -> Result<GoodGroups, Stop> {
+    let sifting = begin(alloc, &first)?;
     let rules = Rules {
         plan,
-        bound,
+        bound: &bound,
         header: first.window.header(),
         width: first.header.width(0),
         most,
     };
-    let sifting = begin(alloc, first)?;
-    let mut sieve: Sieve<'_, S, I> = Sieve {
+    read_rows::<R, S, P, I>(rt, alloc, rules, sifting, workers, source, size, progress)
+}
+
+/// The same after the header, of which some lines may be there already.
+fn read_rows<R: Threads + Wait + Sync, S: Source, P: Progress, I: Origin>(
+    rt: &R,
+    alloc: Global,
+    rules: Rules<'_>,
+    sifting: Sifting,
+    workers: u32,
+    source: &mut S,
+    size: usize,
+    progress: &mut P,
+) -> Result<GoodGroups, Stop>
+    requires workers { workers ≤ MOST_WORKERS }
+    requires sieve { IsSieve I.start source.ghost_name (S.left source.now) rules sifting }
+    requires fresh { sifting.lacks ≡ 0 }
+    ensures over { IfOk result (λ g. AreGroupsOver (of_text rules.entry.plan.now.reading) rules.entry.plan.now (sifting_left rules.entry (S.left source.old) sifting) g.groups) }
+    ensures left_out { IfOk result (λ g. IfSome I.start (λ s. IsLeftOut (of_text s.query.reading) s.query s.most s.from g.left_out)) }
+    ensures why { IfErr result (λ why. IfSome I.start (λ s. Tells (of_text s.query.reading) s.query s.from why)) }
+    ensures read_fault { IfErr result (λ why. why ≡ stop.ReadFault → Rose (S.faults source.old) (S.faults source.new)) }
+    ensures no_write { IfErr result (λ why. (why ≡ stop.WriteFault) → ⊥) }
+{
+    let plan = rules.plan;
+    let mut sieve: Sieve<'_, '_, S, I> = Sieve {
         source,
         alloc,
         rules,
@@ -98,27 +134,19 @@ fn read_rows<'x, R: Threads + Wait + Sync, S: Source, P: Progress, I: Origin>(
         origin: PhantomData,
     };
     let mut taken = Taken::Bytes(0);
-    match read_groups(rt, alloc, plan, workers, &mut sieve, size, progress, &mut taken) {
+    let read = read_groups(rt, alloc, plan, workers, &mut sieve, size, progress, &mut taken);
+    let Sieve {
+        source: _source,
+        sifting,
+        ..
+    } = sieve;
+    match read {
         Ok(groups) => {
-            let (count, first) = sieve.end()?;
-            Ok(GoodGroups {
-                groups,
-                left_out: left_out(count, first)?,
-            })
+            let left_out = sifting.end()?;
+            Ok(GoodGroups { groups, left_out })
         }
-        Err(Stop::ReadFault) => Err(sieve.why()),
+        Err(Stop::ReadFault) => Err(sifting.why(alloc)),
         Err(_) => Err(Stop::Memory),
-    }
-}
-
-/// What was left out.
-fn left_out(count: u64, first: Option<RefusedRow>) -> Result<Option<LeftOut>, Stop> {
-    if count == 0 {
-        return Ok(None);
-    }
-    match first {
-        Some(first) => Ok(Some(LeftOut { count, first })),
-        None => Err(Stop::Memory),
     }
 }
 
@@ -127,7 +155,14 @@ fn begin(alloc: Global, first: &First) -> Result<Sifting, AllocError> {
     let mut ahead = Bytes::new(Vec::new(alloc));
     ahead.put(first.window.header())?;
     let mut text = Vec::from_slice(alloc, first.window.lines())?;
-    text.extend_from_slice(first.window.rest())?;
+    if first.is_last {
+        // The last window has no rest.
+        if !first.window.rest().is_empty() {
+            return Err(AllocError);
+        }
+    } else {
+        text.extend_from_slice(first.window.rest())?;
+    }
     let is_done = text.is_empty();
     let mut line = Vec::new(alloc);
     if !is_done {

@@ -1,6 +1,6 @@
 //! A source that gives the header and the good rows of another one.
 
-ghost use Rattle.std.specs.Prelude.{◌≡◌, ◌<◌, ◌+◌, ◌⊎◌, [], ℕ, List, Option, Err, IfSome, IsErr, OnOk, Some, false, is_some, length, true};
+ghost use Rattle.std.specs.Prelude.{◌≡◌, ◌<◌, ◌+◌, ◌⊎◌, [], ℕ, List, Option, Err, IfErr, IfOk, IsErr, OnOk, Some, false, is_some, length, true};
 ghost use Rattle.std.specs.Io.{ReadsAtMost};
 ghost use Rattle.std.specs.Io.KnownBytes.{IsAtEnd, ReadConsumes};
 ghost use Rattle.par_io.specs.Faults.{HasCause, one_more};
@@ -9,19 +9,21 @@ ghost use Rattle.stream_groups.specs.Stops.{IsStopOfLong, Tells};
 ghost use Rattle.stream_groups.specs.Ways.{of_text};
 ghost use Rattle.stream_groups.specs.declared.stop.Stop.TheVariants as stop;
 ghost use Rattle.good_groups.specs.Counted.{AreRules};
+ghost use Rattle.good_groups.specs.Good.{IsLeftOut};
 ghost use Rattle.good_groups.specs.Opened.{Opened};
 ghost use Rattle.good_groups.specs.Sifting.{GoesOn, IsReady, IsSifting, Sifts, sifting_left};
 ghost use Rattle.good_groups.specs.declared.sifter.Halt.TheVariants as halt;
 ghost use Rattle.good_groups.specs.declared.sifter.Rules.{Rules};
 
 use crate::origin::Origin;
+use crate::reading::LeftOut;
 use crate::sifter::{Halt, MOST_ROWS, Rules, Sifter};
 use crate::tally::Tally;
 use par_io::{Failed, Source};
 use std::alloc::Global;
 use std::marker::{Model, PhantomData};
 use row_windows::WindowAnswer;
-use stream_groups::{RefusedRow, Stop, stop_of_window};
+use stream_groups::{Stop, stop_of_window};
 
 /// The most line feeds of a source: 2^60. A source with more of them is answered as out of memory.
 const MOST_FEEDS: u64 = 1_152_921_504_606_846_976;
@@ -37,10 +39,10 @@ pub(crate) struct Sifting {
 
 /// A source after its header, and what was read of it.
 #[derive(Drop)]
-pub(crate) struct Sieve<'a, S: Source, I: Origin> {
+pub(crate) struct Sieve<'a, 'b, S: Source, I: Origin> {
     pub(crate) source: &'a mut S,
     pub(crate) alloc: Global,
-    pub(crate) rules: Rules<'a>,
+    pub(crate) rules: Rules<'b>,
     pub(crate) sifting: Sifting,
     pub(crate) origin: PhantomData<I>,
 }
@@ -126,7 +128,7 @@ impl Sifting {
     }
 
     /// Why it goes no further.
-    fn why(self, alloc: Global) -> Stop
+    pub(crate) fn why(self, alloc: Global) -> Stop
         ensures why { (o : Opened) (left : Option (List ℕ)) (r : Rules) → AreRules o r → IsSifting o left r self → Tells (of_text o.query.reading) o.query o.from result }
         ensures read_fault { (o : Opened) (left : Option (List ℕ)) (r : Rules) → IsSifting o left r self → result ≡ stop.ReadFault → self.lacks ≡ 0 }
         ensures no_write { (result ≡ stop.WriteFault) → ⊥ }
@@ -147,6 +149,31 @@ impl Sifting {
                 Some(first) => Stop::Refused(first),
                 None => long_stop(alloc, rows, feeds, line.as_slice()),
             },
+        }
+    }
+}
+
+impl Sifting {
+    /// How many rows were left out, and the first of them, if the source is at its end. If it isn't, or memory ran out, there
+    /// is no such answer.
+    pub(crate) fn end(self) -> Result<Option<LeftOut>, Stop>
+        ensures left_out { IfOk result (λ out. (o : Opened) (left : Option (List ℕ)) (r : Rules) → AreRules o r → IsSifting o left r self → IsLeftOut (of_text o.query.reading) o.query o.most o.from out) }
+        ensures why { IfErr result (λ why. why ≡ stop.Memory) }
+    {
+        let Sifting {
+            sifter, is_done, ..
+        } = self;
+        if !is_done {
+            return Err(Stop::Memory);
+        }
+        let Sifter { tally, .. } = sifter;
+        let Tally { count, first, .. } = tally;
+        if count == 0 {
+            return Ok(None);
+        }
+        match first {
+            Some(first) => Ok(Some(LeftOut { count, first })),
+            None => Err(Stop::Memory),
         }
     }
 }
@@ -176,7 +203,8 @@ fn sift(sifter: &mut Sifter, alloc: Global, rules: &Rules<'_>) -> Result<(), Hal
     Ok(())
 }
 
-impl<'a, S: Source, I: Origin> Model for Sieve<'a, S, I> {
+impl<'a, 'b, S: Source, I: Origin> Model for Sieve<'a, 'b, S, I> {
+    ghost use Rattle.std.specs.Prelude.{◌+◌};
     ghost use Rattle.good_groups.specs.Sieve.{IsSieve, Seen};
     ghost use Rattle.good_groups.specs.Sifting.{sifting_left};
 
@@ -184,10 +212,10 @@ impl<'a, S: Source, I: Origin> Model for Sieve<'a, S, I> {
 
     ghost view = { λ s. record { left = sifting_left s.rules (S.left s.source.now) s.sifting; faults = S.faults s.source.now + s.sifting.lacks } };
 
-    ghost invariant = { λ s. IsSieve I.opened (S.left s.source.now) s.rules s.sifting };
+    ghost invariant = { λ s. IsSieve I.start s.source.ghost_name (S.left s.source.now) s.rules s.sifting };
 }
 
-impl<'a, S: Source, I: Origin> Source for Sieve<'a, S, I> {
+impl<'a, 'b, S: Source, I: Origin> Source for Sieve<'a, 'b, S, I> {
     ghost left = { λ s. s.left };
 
     ghost faults = { λ s. s.faults };
@@ -195,23 +223,5 @@ impl<'a, S: Source, I: Origin> Source for Sieve<'a, S, I> {
     /// What is left of the source below.
     fn read(&mut self, buf: &mut [u8]) -> Result<usize, Failed> {
         self.sifting.give(self.alloc, &self.rules, self.source, buf)
-    }
-}
-
-impl<'a, S: Source, I: Origin> Sieve<'a, S, I> {
-    /// Why a read failed.
-    pub(crate) fn why(self) -> Stop
-        ensures why { IfSome I.opened (λ o. Tells (of_text o.query.reading) o.query o.from result) }
-        ensures no_write { (result ≡ stop.WriteFault) → ⊥ }
-    {
-        self.sifting.why(self.alloc)
-    }
-
-    /// How many rows were left out, and the first of them, if the source is at its end; otherwise memory is said to lack.
-    pub(crate) fn end(self) -> Result<(u64, Option<RefusedRow>), Stop> {
-        if !self.sifting.is_done {
-            return Err(Stop::Memory);
-        }
-        Ok((self.sifting.sifter.tally.count, self.sifting.sifter.tally.first))
     }
 }
