@@ -685,6 +685,9 @@ def damage(rng, program, kept, counts, end):
 ITEMS = [("count", None), ("sum", "price"), ("avg", "price"), ("count", "note"), ("min", "qty")]
 KEPT = Plan.of(["region", "item"], ITEMS, [("qty", ">", 0)], "price=2")
 REFUSED = Plan.of(["region"], [("max", "qty"), ("sum", "price")], [], "1")
+# What made readings.states of the source 2.csv.
+READ = Plan.of(["region", "item"], [("count", None), ("sum", "price")], [], "2")
+READ.separator, READ.nulls, READ.trim = ";", "NA,-", True
 LINE = b"parstream: source 0 row 2: column price is not a decimal with at most 1 place\n"
 
 
@@ -716,6 +719,14 @@ def kept_files(program):
         fail("version1.states comes to another table")
     if program.run(["finalize"], data_of("refused.states")) != (1, b"", LINE):
         fail("refused.states refuses another row")
+    data, states = data_of("2.csv"), data_of("readings.states")
+    header, *rows = ([READ.read(field) for field in row] for row in csv.reader(io.StringIO(data.decode(), newline=""), delimiter=";"))
+    if states_of(READ, data[: data.index(b"\n") + 1], [(0, 0, len(data), len(data), rows)], 1) != states:
+        fail("readings.states is another file", header)
+    if program.run(["partial", *READ.words()], data) != (0, states, b""):
+        fail("another file of a source that is kept with its reading")
+    if program.run(["finalize"], states) != (0, data_of("readings.csv"), b""):
+        fail("readings.states comes to another table")
 
 
 def other_readings(program):
