@@ -1,9 +1,8 @@
 -- Rows have no more groups than they are.
-use Rattle.std.proofs.Common.{T, ◌≡◌, ◌≤◌, ◌+◌, ◌++◌, ◌&&◌, ◌∙◌, ℕ, Bool, true, false, List, [], ◌∷◌, None, Some, ap, arith, bytes_eq, cond, filter, length, length-append, refl, sym}
+use Rattle.std.proofs.Common.{T, ◌≡◌, ◌≤◌, ◌&&◌, ◌∙◌, ℕ, Bool, true, false, List, [], ◌∷◌, None, Some, ap, arith, bytes_eq, cond, filter, length, length-append, refl, sym}
 use Rattle.std.specs.Cmp.Lexicographic.{bytes_decides}
 use Rattle.std.specs.FinMap as map
 use Rattle.std.specs.List.{AllZip, flat_map}
-use Rattle.std.specs.Prelude.{map as map_list}
 use Rattle.std.proofs.lemmas.List.{length-map}
 use Rattle.std.proofs.lemmas.List.Elements.{filter_passes}
 use Rattle.std.proofs.lemmas.List.Sorted.{length_permutation}

@@ -22,7 +22,7 @@ use Rattle.state_blocks.specs.Blocks.{Group}
 use Rattle.state_front.specs.Front.{IsFront}
 use Rattle.state_head.specs.Cover.{IsCover}
 use Rattle.state_head.specs.Head.{Preface, Subject, head_bytes}
-use Rattle.state_head.specs.Words.{AreWords, Keys}
+use Rattle.state_head.specs.Words.{AreWords, Keys, Words}
 use Rattle.state_head.specs.declared.cover.Place.{Place}
 use Rattle.state_head.specs.declared.cover.Rows.{Rows}
 use Rattle.state_head.specs.declared.cover.Rows.TheVariants.{Counted, Refused}
@@ -239,9 +239,9 @@ few_listed query header from (Counted many) m are =
 few_listed query header from (Refused why) m are = omega (arith, ap length (none_listed m are.none))
 
 -- a head has no room for it
-pub no_room : (asked : Asked) (query : Query) (bytes read : List ℕ) (p : Part) (part : IsPartRead query (Some read) p) (place : Place) → AskFor asked.words query → AreRead asked.part.source asked.extent (text_by query bytes) place read
-    → HasNoRoom asked.words p.header.items p.rows → IsLongPart asked bytes
-no_room asked query bytes read p part place ask are_read none = record {
+pub no_room : (asked : Asked) (query : Query) (bytes read : List ℕ) (p : Part) (part : IsPartRead query (Some read) p) (place : Place) (words : Words) (text : List ℕ) → AskFor asked.words query
+    → AreRead asked.part.source asked.extent (text_by query bytes) place read → words ≡ asked.words → text ≡ p.header.items → HasNoRoom words text p.rows → IsLongPart asked bytes
+no_room asked query bytes read p part place words text ask are_read words_are text_is none = record {
   query = query;
   ask_for = ask;
   place = place;
@@ -253,7 +253,7 @@ no_room asked query bytes read p part place ask are_read none = record {
   rows = p.rows;
   groups = p.map;
   are = part.are;
-  long = inl none;
+  long = inl (subst (λ (w : Words). HasNoRoom w p.header.items p.rows) words_are (subst (λ (t : List ℕ). HasNoRoom words t p.rows) text_is none));
 }
 
 -- its head or its foot is too long

@@ -18,7 +18,7 @@ use Rattle.state_law.specs.Made.{IsMade, blank, tile, whole}
 use Rattle.state_law.specs.Sources.{IsTile, Work, bytes_at, comma_text, plan_in, rows_at, text_of, whole_place, without_header}
 use Rattle.state_law.specs.Truth.{IsReadOf}
 use Rattle.state_law.proofs.Cuts.{cut_append}
-use Rattle.state_law.proofs.Tiles.{as_add_up}
+use Rattle.stream_groups.proofs.ReadAs.{as_add_up}
 use Rattle.state_whole.specs.Adding.{IsShapeOf}
 use Rattle.state_whole.specs.Files.{StateFile}
 use Rattle.state_whole.specs.declared.adding.Shape.{Shape}

@@ -1,5 +1,5 @@
 -- A source of which no tile was asked for, once the separator of a query is exchanged in it.
-use Rattle.std.proofs.Common.{◌≡◌, ◌+◌, ◌∙◌, ◌<◌, ◌⊎◌, inl, inr, ℕ, List, Option, Some, ap, map, subst, sym}
+use Rattle.std.proofs.Common.{◌≡◌, ◌+◌, ◌∙◌, ◌⊎◌, inl, inr, ℕ, List, Option, Some, ap, map, subst, sym}
 use Rattle.std.specs.Prelude.{option_map}
 use Rattle.csv_rows.specs.Readings.{exchanged}
 use Rattle.par_io.specs.Faults.{Rose}

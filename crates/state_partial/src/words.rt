@@ -391,10 +391,7 @@ fn asking_options<'a>(alloc: Global) -> Result<Command<'a>, AllocError>
 }
 
 /// A command with those that say how fields are read.
-fn with_reading_options<'a>(
-    alloc: Global,
-    command: Command<'a>,
-) -> Result<Command<'a>, AllocError>
+fn with_reading_options<'a>(alloc: Global, command: Command<'a>) -> Result<Command<'a>, AllocError>
     ensures { IfOk result (λ c. app_of c ≡ reading_command (app_of command.entry)) }
 {
     let parted = with_option(alloc, command, "separator", false)?;

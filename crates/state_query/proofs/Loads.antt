@@ -3,7 +3,7 @@ use Rattle.std.proofs.Common.{◌≡◌, ◌<◌, ◌++◌, ℕ, List, [], ◌�
 use Rattle.std.specs.FinMap as map
 use Rattle.par_model.specs.Named.{bound_plan}
 use Rattle.par_model.specs.Plan.{Plan}
-use Rattle.state_front.specs.Front.{IsFront, front_bytes, name_bytes}
+use Rattle.state_front.specs.Front.{front_bytes, name_bytes}
 use Rattle.state_head.specs.Head.{Preface, Subject, subject_of}
 use Rattle.state_head.specs.Words.{Keys, keys_of}
 use Rattle.state_load.specs.Faults.{AreNoParts}

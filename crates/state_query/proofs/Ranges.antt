@@ -1,5 +1,5 @@
 -- What a loaded input comes to in a range of keys.
-use Rattle.std.proofs.Common.{◌≡◌, ◌∙◌, ◌⊎◌, inl, inr, ℕ, List, ap, length, subst, sym}
+use Rattle.std.proofs.Common.{◌≡◌, ◌⊎◌, inl, inr, ℕ, List, ap, length, subst, sym}
 use Rattle.std.specs.Global.{Vec}
 use Rattle.par_model.specs.Plan.{Plan}
 use Rattle.plan_spec.specs.Query.{Query}
@@ -13,12 +13,11 @@ use Rattle.state_head.specs.declared.cover.Stretch.{Stretch}
 use Rattle.state_load.specs.Loading.{stretches_of}
 use Rattle.state_range.specs.Ranges.{IsTextWithin}
 use Rattle.state_total.specs.declared.total.FirstRefused.{FirstRefused}
-use Rattle.state_query.specs.Inputs.{HasRefusedRow, bound_of, groups_in, IsLoaded}
+use Rattle.state_query.specs.Inputs.{HasRefusedRow, groups_in, IsLoaded}
 use Rattle.state_query.specs.Ranges.{HasNoEnd, HasTextWithin, IsEndOf, IsNoEnds, IsRangeStop, IsRangeText, columns_in}
 use Rattle.state_query.specs.Whys.{IsStopOf}
 use Rattle.state_query.specs.declared.input.Loaded.{Loaded}
 use Rattle.state_query.specs.declared.stop.Stop.{Stop}
-use Rattle.state_query.specs.declared.stop.Stop.TheVariants as stop
 use Rattle.state_query.proofs.Ends.{bound_is, whole_of}
 
 has_text_within : {within : Keys} (bytes : List ℕ) (l : Loaded) (range : Keys) (pieces : Vec (Vec ℕ)) (is : IsLoaded within bytes l) → IsFinishedWithin l.plan.plan.plan l.plan.bound l.whole.sources range (groups_in is.input) l.sum.cover.items (Table pieces)

@@ -79,6 +79,7 @@ pub(crate) fn load_within<'a, 'k>(
 ) -> Result<Loaded<'a, 'k>, Stop>
     requires { IsOpened bytes.now opened }
     ensures loaded { IfOk result (IsLoaded (keys_of within.entry) bytes.now) }
+    ensures plan { IfOk result (λ loaded. loaded.plan ≡ opened.entry.plan) }
     ensures why { IfErr result (IsStopOf bytes.now) }
 {
     let Opened { whole, range, plan } = opened;

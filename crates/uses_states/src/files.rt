@@ -9,7 +9,7 @@ use state_head::{Head, KeyRange, Place, PlanWords, Rows, Stretch, Whole};
 use state_lanes::Lane;
 use state_load::add_files;
 use state_save::push_file;
-use state_whole::{Shape, Sum};
+use state_whole::{Kept, Shape, Sum};
 use std::alloc::Global;
 use std::test::Fail;
 
@@ -106,10 +106,17 @@ fn saved(rt: HostRuntime) -> Result<(), Fail> {
 
 #[test]
 fn loaded(rt: HostRuntime) -> Result<(), Fail> {
-    let mut sum = Sum::new(rt.alloc());
+    let kept = Kept {
+        columns: 1,
+        range: KeyRange {
+            low: b"\x01\0\0\0b",
+            high: b"",
+        },
+    };
+    let mut sum = Sum::new(rt.alloc(), kept);
     let files = add_files(rt.alloc(), &mut sum, FILE, WHOLE, RANGE, &SHAPE);
     assert!(rt; files == Ok(1));
-    assert!(rt; sum.map.len() == 2 && sum.cover.as_slice() == [STRETCH].as_slice());
+    assert!(rt; sum.map.len() == 1 && sum.cover.as_slice() == [STRETCH].as_slice());
     Ok(())
 }
 

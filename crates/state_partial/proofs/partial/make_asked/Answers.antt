@@ -1,4 +1,4 @@
-use Rattle.std.proofs.Common.{◌≡◌, ◌∙◌, ℕ, List, Option, ap, map, refl, subst}
+use Rattle.std.proofs.Common.{◌∙◌, ℕ, ap, map, refl, subst}
 use Rattle.std.specs.Prelude.{option_map}
 use Rattle.std.proofs.lemmas.Result.{IfErr-weaker, IfOk-weaker}
 use Rattle.csv_rows.specs.Readings.{exchanged}
@@ -10,32 +10,32 @@ use Rattle.state_partial.specs.Words.{asked_of}
 use Rattle.state_partial.proofs.Separates.{comma_left, faults_kept, short_text}
 use Rattle.state_partial.proofs.partial.make_asked.Goals as goal
 
-pub returns-in-Ok-clause-file : goal.returns-in-Ok-clause-file
-returns-in-Ok-clause-file g c =
+pub returns-clause-file : goal.returns-clause-file
+returns-clause-file g c =
     let old = c.args.source.now in
     let left = g.S.Source.left in
     let exchanged = c.separate.ensures.exchanged ∙ ap (λ (r : Reading). option_map (map (exchanged r.separator)) (bare_left left old.source)) c.reading.ensures.value in
     let same = comma_left old (record old { source = c.separate.new.self }) refl left c.in-Ok.plan c.requires.uncut exchanged in
     IfOk-weaker c.make_read.result _ _ (λ file has words is_asked. has words is_asked (source_left (bare_left left) old) same) c.make_read.ensures.file
 
-pub returns-in-Ok-clause-why : goal.returns-in-Ok-clause-why
-returns-in-Ok-clause-why g c =
+pub returns-clause-why : goal.returns-clause-why
+returns-clause-why g c =
     let old = c.args.source.now in
     let left = g.S.Source.left in
     let exchanged = c.separate.ensures.exchanged ∙ ap (λ (r : Reading). option_map (map (exchanged r.separator)) (bare_left left old.source)) c.reading.ensures.value in
     let same = comma_left old (record old { source = c.separate.new.self }) refl left c.in-Ok.plan c.requires.uncut exchanged in
     IfErr-weaker c.make_read.result _ _ (λ why has words is_asked. has words is_asked (source_left (bare_left left) old) same) c.make_read.ensures.why
 
-pub returns-in-Ok-clause-read_fault : goal.returns-in-Ok-clause-read_fault
-returns-in-Ok-clause-read_fault g c =
+pub returns-clause-read_fault : goal.returns-clause-read_fault
+returns-clause-read_fault g c =
     let old = c.args.source.now in
     let faults = g.S.Source.faults in
     let kept = faults_kept old (record old { source = c.separate.new.self }) refl faults c.separate.ensures.faults in
     let now = source_faults (bare_faults faults) c.make_read.new.source in
     IfErr-weaker c.make_read.result _ _ (λ why has e. subst (λ (n : ℕ). Rose n now) kept (has e)) c.make_read.ensures.read_fault
 
-pub returns-in-Ok-clause-short : goal.returns-in-Ok-clause-short
-returns-in-Ok-clause-short g c =
+pub returns-clause-short : goal.returns-clause-short
+returns-clause-short g c =
     let old = c.args.source.now in
     let left = g.S.Source.left in
     let faults = g.S.Source.faults in

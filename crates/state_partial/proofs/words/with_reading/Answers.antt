@@ -1,9 +1,6 @@
-use Rattle.std.proofs.Common.{◌≡◌, ◌++◌, ◌∙◌, ℕ, List, ap, append_assoc, codes}
+use Rattle.std.proofs.Common.{◌∙◌}
 use Rattle.std.proofs.lemmas.Result.{IfOk-weaker}
-use Rattle.std.proofs.lemmas.Grind.{flat_map-append}
 use Rattle.plan_spec.specs.Query.{text_of}
-use Rattle.state_file.specs.Text.{text_bytes}
-use Rattle.state_partial.specs.Words.{filters_of, text_after}
 use Rattle.state_partial.proofs.TextsAfter.{three_texts}
 use Rattle.state_partial.proofs.words.with_reading.Goals as goal
 

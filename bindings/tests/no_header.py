@@ -105,7 +105,7 @@ def main():
         got = list(asked(program, ["--no-header", *words.split()], text))
         if got != wanted:
             sys.exit(f"numbers: {words}\ntext   {text!r}\ngot    {got}\nwanted {wanted}")
-    print(f"numbers: {count} trials, no difference; {len(ROWS)} rows as expected")
+    print(f"no header: {count} trials, no difference; {len(ROWS)} rows as expected")
 
 
 main()
