@@ -29,7 +29,7 @@ const ROWS: [Row; 14] = [
         BAD,
         0,
         "g,count,sum(v)\na,2,3\n",
-        ": 2 rows left out; the first: row 2 (line 3): column \"v\" is not an integer: \"1x\"\n",
+        ": rows left out: 2; the first: row 2 (line 3): column \"v\" is not an integer: \"1x\"\n",
     ),
     (
         "--group g --agg count,sum:v",
@@ -65,7 +65,7 @@ const ROWS: [Row; 14] = [
         "v\n1,2\n,\n",
         0,
         "v,count\n",
-        ": 2 rows left out; the first: row 1 (line 2): wrong number of fields: 2, the header has 1\n",
+        ": rows left out: 2; the first: row 1 (line 2): wrong number of fields: 2, the header has 1\n",
     ),
     (
         "--agg count",
@@ -73,7 +73,7 @@ const ROWS: [Row; 14] = [
         "g,v\na,\"1\n1\"\n\"b\n",
         0,
         "count\n1\n",
-        ": 1 rows left out; the first: row 2 (line 4): wrong number of fields: 1, the header has 2; the quote in line 4 is not closed\n",
+        ": rows left out: 1; the first: row 2 (line 4): wrong number of fields: 1, the header has 2; the quote in line 4 is not closed\n",
     ),
     // another separator, and texts that are read as nothing
     (
@@ -82,7 +82,7 @@ const ROWS: [Row; 14] = [
         "g;v\na;1,5\nb;2\n",
         0,
         "sum(v)\n2\n",
-        ": 1 rows left out; the first: row 1 (line 2): column \"v\" is not an integer: \"1,5\"\n",
+        ": rows left out: 1; the first: row 1 (line 2): column \"v\" is not an integer: \"1,5\"\n",
     ),
     (
         "--agg sum:v --null NA --trim",
@@ -90,7 +90,7 @@ const ROWS: [Row; 14] = [
         "v\r\n NA\r\n 1x\r\n 3 \r\n",
         0,
         "sum(v)\n3\n",
-        ": 1 rows left out; the first: row 2 (line 3): column \"v\" is not an integer: \"1x\"\n",
+        ": rows left out: 1; the first: row 2 (line 3): column \"v\" is not an integer: \"1x\"\n",
     ),
     // other reasons
     ("--agg sum:v", 3, "", 2, "", ": no header\n"),
