@@ -1,0 +1,5 @@
+pub mod Opened
+pub mod Counted
+pub mod Sifting
+pub mod Sieve
+pub mod Good
