@@ -77,7 +77,7 @@ def main():
         wanted = asked(program, words, text)
         if 0 < bad <= most:
             first = wanted[1].decode().removeprefix("parstream: ")
-            line = f"parstream: {bad} rows left out; the first: {first}".encode()
+            line = f"parstream: rows left out: {bad}; the first: {first}".encode()
             wanted = (asked(program, words, good)[0], line, 0)
         if got != wanted or (bad > most) != (got[2] == 1):
             sys.exit(f"skips: {words} {most}\ntext   {text[:600]!r}\ngot    {got}\nwanted {wanted}")

@@ -5,7 +5,7 @@ use Rattle.good_groups.specs.declared.reading.LeftOut.{LeftOut}
 
 -- how many there are, and of the first one what its refusal says, by numbers that are written as digits
 abbrev pub left_out_text_of : List ℕ → List ℕ → List ℕ → List ℕ → List ℕ
-left_out_text_of count row at said = count ++ (codes " rows left out; the first: " ++ (row_front_of row at ++ said))
+left_out_text_of count row at said = codes "rows left out: " ++ (count ++ (codes "; the first: " ++ (row_front_of row at ++ said)))
 
 -- the same of the rows
 abbrev pub left_out_text : LeftOut → List ℕ

@@ -26,7 +26,7 @@ fn pieces<'a>(
     count: &'a mut itoa::Buffer,
     row: &'a mut itoa::Buffer,
     at: &'a mut itoa::Buffer,
-) -> [&'a str; 10]
+) -> [&'a str; 11]
     ensures { concat (map (λ piece. piece.now) result) ≡ line (left_out_text left_out.now) }
 {
     let first = &left_out.first;
@@ -39,13 +39,14 @@ fn pieces<'a>(
 }
 
 /// The same of numbers as digits.
-fn of_texts<'a>(count: &'a str, row: &'a str, at: &'a str, said: &'a str) -> [&'a str; 10]
+fn of_texts<'a>(count: &'a str, row: &'a str, at: &'a str, said: &'a str) -> [&'a str; 11]
     ensures { concat (map (λ piece. piece.now) result) ≡ line (left_out_text_of count.now row.now at.now said.now) }
 {
     [
         "parstream: ",
+        "rows left out: ",
         count,
-        " rows left out; the first: ",
+        "; the first: ",
         "row ",
         row,
         " (line ",

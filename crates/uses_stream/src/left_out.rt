@@ -29,7 +29,7 @@ const ROWS: [Row; 14] = [
         BAD,
         0,
         "g,count,sum(v)\na,2,3\n",
-        ": 2 rows left out; the first: row 2 (line 3): column \"v\" is not an integer: \"1x\"\n",
+        ": rows left out: 2; the first: row 2 (line 3): column \"v\" is not an integer: \"1x\"\n",
     ),
     (
         "--group g --agg count,sum:v",
@@ -65,7 +65,7 @@ const ROWS: [Row; 14] = [
         "v\n1,2\n,\n",
         0,
         "v,count\n",
-        ": 2 rows left out; the first: row 1 (line 2): wrong number of fields: 2, the header has 1\n",
+        ": rows left out: 2; the first: row 1 (line 2): wrong number of fields: 2, the header has 1\n",
     ),
     (
         "--agg count",
@@ -73,7 +73,7 @@ const ROWS: [Row; 14] = [
         "g,v\na,\"1\n1\"\n\"b\n",
         0,
         "count\n1\n",
-        ": 1 rows left out; the first: row 2 (line 4): wrong number of fields: 1, the header has 2; the quote in line 4 is not closed\n",
+        ": rows left out: 1; the first: row 2 (line 4): wrong number of fields: 1, the header has 2; the quote in line 4 is not closed\n",
     ),
     // another separator, and texts that are read as nothing
     (
@@ -82,7 +82,7 @@ const ROWS: [Row; 14] = [
         "g;v\na;1,5\nb;2\n",
         0,
         "sum(v)\n2\n",
-        ": 1 rows left out; the first: row 1 (line 2): column \"v\" is not an integer: \"1,5\"\n",
+        ": rows left out: 1; the first: row 1 (line 2): column \"v\" is not an integer: \"1,5\"\n",
     ),
     (
         "--agg sum:v --null NA --trim",
@@ -90,7 +90,7 @@ const ROWS: [Row; 14] = [
         "v\r\n NA\r\n 1x\r\n 3 \r\n",
         0,
         "sum(v)\n3\n",
-        ": 1 rows left out; the first: row 2 (line 3): column \"v\" is not an integer: \"1x\"\n",
+        ": rows left out: 1; the first: row 2 (line 3): column \"v\" is not an integer: \"1x\"\n",
     ),
     // other reasons
     ("--agg sum:v", 3, "", 2, "", ": no header\n"),
@@ -144,21 +144,35 @@ fn answered<R: Threads + Wait + Sync>(
     })
 }
 
+/// Whether the answer to a row is the one that it has, for each of several numbers of workers.
+fn is_answered<R: Threads + Wait + Sync>(
+    rt: &R,
+    alloc: Global,
+    row: Row,
+) -> Result<bool, AllocError> {
+    let (words, most, input, status, table, line) = row;
+    for workers in ["0", "2"] {
+        let words = format!(in alloc; "{words} --workers {workers}")?;
+        let given = answered(rt, alloc, words.as_str(), most, input, 16)?;
+        if given.status != status
+            || given.out.as_slice() != table.as_bytes()
+            || given.err.as_slice() != line.as_bytes()
+        {
+            return Ok(false);
+        }
+    }
+    Ok(true)
+}
+
 #[test]
 fn left_out(rt: HostRuntime) -> Result<(), Fail> {
-    for (words, most, input, status, table, line) in ROWS {
-        for workers in ["0", "2"] {
-            let words = format!(in rt.alloc(); "{words} --workers {workers}")?;
-            for size in [3usize, 100] {
-                let given = answered(&rt, rt.alloc(), words.as_str(), most, input, size)?;
-                assert!(rt;
-                    given.status == status
-                        && given.out.as_slice() == table.as_bytes()
-                        && given.err.as_slice() == line.as_bytes(),
-                    "{words} over {input}, {most}"
-                );
-            }
-        }
+    for row in ROWS {
+        assert!(rt;
+            is_answered(&rt, rt.alloc(), row)?,
+            "{} over {}",
+            row.0,
+            row.2
+        );
     }
     Ok(())
 }
