@@ -4,3 +4,5 @@ mod Counting
 mod Rows
 mod Steps
 mod Ends
+mod Begins
+mod Goes

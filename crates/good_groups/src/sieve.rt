@@ -1,8 +1,8 @@
 //! A source that gives the header and the good rows of another one.
 
-ghost use Rattle.std.specs.Prelude.{◌≡◌, ◌<◌, ◌+◌, ◌⊎◌, [], ℕ, List, Option, Err, IfErr, IfOk, IsErr, OnOk, Some, false, is_some, length, true};
+ghost use Rattle.std.specs.Prelude.{◌≡◌, ◌<◌, ◌+◌, ◌⊎◌, [], ℕ, List, Option, Err, IfErr, IfOk, IsErr, None, OnOk, Some, false, is_some, length, true};
 ghost use Rattle.std.specs.Io.{ReadsAtMost};
-ghost use Rattle.std.specs.Io.KnownBytes.{IsAtEnd, ReadConsumes};
+ghost use Rattle.std.specs.Io.KnownBytes.{IsAtEnd, Keeps, ReadConsumes};
 ghost use Rattle.par_io.specs.Faults.{HasCause, one_more};
 ghost use Rattle.row_windows.specs.declared.window.TheConstants.{MOST_RECORD_BYTES};
 ghost use Rattle.stream_groups.specs.Stops.{IsStopOfLong, Tells};
@@ -11,7 +11,7 @@ ghost use Rattle.stream_groups.specs.declared.stop.Stop.TheVariants as stop;
 ghost use Rattle.good_groups.specs.Counted.{AreRules};
 ghost use Rattle.good_groups.specs.Good.{IsLeftOut};
 ghost use Rattle.good_groups.specs.Opened.{Opened};
-ghost use Rattle.good_groups.specs.Sifting.{GoesOn, IsReady, IsSifting, Sifts, sifting_left};
+ghost use Rattle.good_groups.specs.Sifting.{GoesOn, IsOpen, IsReady, IsSifting, Sifts, sifter_left, sifting_left};
 ghost use Rattle.good_groups.specs.declared.sifter.Halt.TheVariants as halt;
 ghost use Rattle.good_groups.specs.declared.sifter.Rules.{Rules};
 
@@ -89,7 +89,7 @@ impl Sifting {
         if let Some(halt) = self.halt {
             return self.stop(halt);
         }
-        if self.sifter.pending.is_empty() && !self.sifter.pending.read(source)? {
+        if !refill(&mut self.sifter, source)? {
             return self.close(alloc, rules);
         }
         match sift(&mut self.sifter, alloc, rules) {
@@ -103,6 +103,7 @@ impl Sifting {
         requires going { self.old.is_done ≡ false }
         requires ready { IsReady rules.now self.old.sifter }
         requires none { self.old.sifter.pending ≡ [] }
+        requires open { self.old.halt ≡ None }
         ensures ready { self.new.is_done ≡ false → IsReady rules.now self.new.sifter }
         ensures goes { (o : Opened) (left : Option (List ℕ)) → IsAtEnd left → AreRules o rules.now → GoesOn o rules.now left left self.old self.new }
         ensures cause { HasCause self.old.lacks self.new.lacks result }
@@ -186,6 +187,20 @@ fn long_stop(alloc: Global, rows: u64, feeds: u64, line: &[u8]) -> Stop
         return Stop::Memory;
     }
     stop_of_window(alloc, WindowAnswer::LongRecord, rows + 1, feeds, line)
+}
+
+/// Reads a piece more unless there are bytes that were read. Says whether there are some now.
+fn refill<S: Source>(sifter: &mut Sifter, source: &mut S) -> Result<bool, Failed>
+    ensures same { sifter.new ≡ record sifter.old { pending = sifter.new.pending } }
+    ensures left { (r : Rules) → Keeps (sifter_left r (S.left source.old) sifter.old) (sifter_left r (S.left source.new) sifter.new) }
+    ensures counts { (r : Rules) (o : Opened) → IsOpen o (S.left source.old) r sifter.old → IsOpen o (S.left source.new) r sifter.new }
+    ensures end { IfOk result (λ some. some ≡ false → (sifter.new.pending ≡ []) × IsAtEnd (S.left source.new)) }
+    ensures cause { HasCause (S.faults source.old) (S.faults source.new) result }
+{
+    if !sifter.pending.is_empty() {
+        return Ok(true);
+    }
+    sifter.pending.read(source)
 }
 
 /// Sifts all bytes that were read.
