@@ -1,12 +1,14 @@
 -- What there is after the header.
 use Rattle.std.proofs.Common.{◌≡◌, ◌≢◌, ◌⊎◌, inl, inr, ◌<◌, ◌≤◌, ◌+◌, ◌++◌, ◌^◌, ◌∙◌, ℕ, Bool, true, false, List, [], ◌∷◌, Option, None, Some, IfSome, ap, append-nil, append_assoc, arith, length, refl, subst, sym}
-use Rattle.std.specs.Prelude.{option_map}
+use Rattle.std.specs.Prelude.{if◌then◌else◌, option_map}
+use Rattle.std.proofs.lemmas.Bool.{cases_Bool}
 use Rattle.std.specs.Io.KnownBytes.{IsAtEnd, prepend_known}
 use Rattle.csv_rows.specs.Cuts.{IsCut}
 use Rattle.csv_rows.specs.Places.{place_after}
 use Rattle.csv_rows.specs.Readings.{records_as}
 use Rattle.csv_rows.specs.Records.{record_at}
 use Rattle.csv_rows.specs.declared.cleaning.Reading.{Reading}
+use Rattle.csv_rows.specs.declared.place.Place.{Place}
 use Rattle.csv_rows.specs.declared.place.Place.TheVariants as place
 use Rattle.par_model.specs.Named.{bound_plan}
 use Rattle.par_model.specs.Plan.{Plan}
@@ -14,8 +16,8 @@ use Rattle.row_blocks.specs.Blocks.{Table}
 use Rattle.row_windows.specs.Seams.{BeginsLine, is_line_end}
 use Rattle.row_windows.specs.Stretch.{Stretch}
 use Rattle.good_rows.specs.Good.{good_rows, has_good}
-use Rattle.good_rows.specs.Lines.{IsBegun, left_of}
-use Rattle.good_rows.proofs.Left.{begins_one, left_begins, rows_left}
+use Rattle.good_rows.specs.Lines.{IsBegun, ends_here, left_of, line_left}
+use Rattle.good_rows.proofs.Left.{begins_one, rows_left}
 use Rattle.stream_groups.specs.Reading.{ArePart, AreRead, HasPart, HasRead}
 use Rattle.stream_groups.proofs.ReadAs.{as_add_up}
 use Rattle.good_groups.specs.Counted.{AreRules}
@@ -23,6 +25,24 @@ use Rattle.good_groups.specs.Good.{good_records}
 use Rattle.good_groups.specs.Opened.{Opened}
 use Rattle.good_groups.specs.Sifting.{keeps}
 use Rattle.good_groups.specs.declared.sifter.Rules.{Rules}
+
+-- what is left begins as the line does
+line_begins : (k : List ℕ → Bool) (c : ℕ) (line : List ℕ) → (more : List ℕ) × (line_left k (c ∷ line) ≡ c ∷ more)
+line_begins k c line = elim (cases_Bool (k (c ∷ line))) [
+  | inl kept ↦ (line, ap (λ (b : Bool). if b then c ∷ line else c ∷ []) kept)
+  | inr out ↦ ([], ap (λ (b : Bool). if b then c ∷ line else c ∷ []) out)
+]
+
+left_begins : (k : List ℕ → Bool) (c : ℕ) (line rest : List ℕ) (p : Place) → (more : List ℕ) × (left_of k p (c ∷ line) rest ≡ c ∷ more)
+unfolding left_of
+left_begins k c line [] p = line_begins k c line
+left_begins k c line (d ∷ rest) p = elim (cases_Bool (ends_here p d)) [
+  | inl ends ↦
+      let front = line_begins k c line in
+      let back = left_of k (place_after p (d ∷ [])) (d ∷ []) rest in
+      (front.0 ++ back, rw ends (ap (λ (t : List ℕ). t ++ back) front.1))
+  | inr goes ↦ let later = left_begins k c (line ++ d ∷ []) rest (place_after p (d ∷ [])) in (later.0, rw goes later.1)
+]
 
 -- lines and a rest begin with a byte, and the other bytes are not looked at yet
 pub part_begins : (reading : Reading) (from left : Option (List ℕ)) (records : Table) (feeds : ℕ) (w : Stretch) (c : ℕ) (more : List ℕ) → w.lines ++ w.rest ≡ c ∷ more → is_line_end c ≡ true → HasPart reading from left records feeds (w ∷ []) w.rest

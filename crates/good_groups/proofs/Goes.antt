@@ -20,6 +20,21 @@ keeps_same None y is = tt
 keeps_same (Some x) None is = let bad = is in cc bad
 keeps_same (Some x) (Some y) is = cc is
 
+keeps_then : (x y z : Option (List ℕ)) → Keeps x y → Keeps y z → Keeps x z
+keeps_then None y z f g = tt
+keeps_then (Some x) None z f g = absurd f
+keeps_then (Some x) (Some y) None f g = absurd g
+keeps_then (Some x) (Some y) (Some z) f g = g ∙ f
+
+pub goes_then : (o : Opened) (r : Rules) (old mid new : Option (List ℕ)) (a b c : Sifting) → GoesOn o r old mid a b → GoesOn o r mid new b c → GoesOn o r old new a c
+goes_then o r old mid new a b c f g = record {
+  keeps = keeps_then (sifting_left r old a) (sifting_left r mid b) (sifting_left r new c) f.keeps g.keeps;
+  is = λ s. g.is (f.is s);
+}
+
+pub goes_none : (o : Opened) (r : Rules) (left : Option (List ℕ)) (a : Sifting) → GoesOn o r left left a a
+goes_none o r left a = record { keeps = keeps_same (sifting_left r left a) (sifting_left r left a) refl; is = λ s. s }
+
 halted_by : (why : Halt) (b : Sifting) → b.is_done ≡ false → (why ≡ halt.TooMany → is_some b.sifter.tally.first ≡ true) → (why ≡ halt.Long → MOST_RECORD_BYTES < length b.sifter.line.items) → IsHalted (Some why) b
 halted_by halt.TooMany b going many long = many refl
 halted_by halt.Long b going many long = (going, long refl)

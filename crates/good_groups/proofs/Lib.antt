@@ -6,3 +6,4 @@ mod Steps
 mod Ends
 mod Begins
 mod Goes
+mod Gives

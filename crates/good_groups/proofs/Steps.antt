@@ -98,7 +98,7 @@ module _ (r : Rules) (s n : Sifter) where
   }
 
 -- what was not counted
-not_counted : (r : Rules) (s n : Sifter) → n ≡ record s { ahead = n.ahead; tally = n.tally } → n.tally.feeds ≡ s.tally.feeds → (o : Opened) (left : Option (List ℕ)) (is : IsOpen o left r s) → HasCounted o r.bound.now n.tally is.rows → IsOpen o left r n
+pub not_counted : (r : Rules) (s n : Sifter) → n ≡ record s { ahead = n.ahead; tally = n.tally } → n.tally.feeds ≡ s.tally.feeds → (o : Opened) (left : Option (List ℕ)) (is : IsOpen o left r s) → HasCounted o r.bound.now n.tally is.rows → IsOpen o left r n
 not_counted r s n same feeds o left is counted = record {
   rows = is.rows;
   counted = counted;
@@ -151,7 +151,7 @@ module _ (r : Rules) (s : Sifter) (some : 0 < length s.pending) (ends : ends_her
       counts = λ o left are is. not_counted r s n same feeds o left is (counts o (prepend_known s.pending left) is.rows [] are (next_open o left are is) is.counted);
     }
 
-    module _ (b : Sifter) (then : b ≡ record n { line = b.line; place = b.place; pending = drop 1 n.pending }) (line : b.line.items ≡ take 1 n.pending) (at : b.place ≡ place_after n.place (take 1 n.pending)) where
+    module _ (b : Sifter) (begun_is : b ≡ record n { line = b.line; place = b.place; pending = drop 1 n.pending }) (line : b.line.items ≡ take 1 n.pending) (at : b.place ≡ place_after n.place (take 1 n.pending)) where
       one : take 1 n.pending ≡ slice_index s.pending 0 ∷ []
       one = ap (take 1) (ap (λ x. x.pending) same ∙ first_rest s.pending some)
 
@@ -164,8 +164,8 @@ module _ (r : Rules) (s : Sifter) (some : 0 < length s.pending) (ends : ends_her
       -- it was closed, and another one is begun
       pub sifts_line : n.ahead ≡ s.ahead ++ line_left (keeps r) s.line.items → Counts r s.line.items s.tally n.tally → n.tally.feeds ≡ s.tally.feeds + count_feeds s.line.items → n.tally.feeds ≤ 2 ^ 60 → Sifts r s b
       sifts_line ahead counts feeds few =
-          let tally : b.tally ≡ n.tally = ap (λ x. x.tally) then in
-          sifts_over r s b (slice_index s.pending 0) (drop 1 s.pending) (first_rest s.pending some) ends (ap (λ x. x.pending) then ∙ ap (drop 1) (ap (λ x. x.pending) same)) line_is place_is (ap (λ x. x.ahead) then ∙ ahead)
+          let tally : b.tally ≡ n.tally = ap (λ x. x.tally) begun_is in
+          sifts_over r s b (slice_index s.pending 0) (drop 1 s.pending) (first_rest s.pending some) ends (ap (λ x. x.pending) begun_is ∙ ap (drop 1) (ap (λ x. x.pending) same)) line_is place_is (ap (λ x. x.ahead) begun_is ∙ ahead)
           (subst (Counts r s.line.items s.tally) (sym tally) counts) (ap (λ t. t.feeds) tally ∙ feeds) (omega (arith, few, ap (λ t. t.feeds) tally))
 
       pub ready_line : IsReady r s → n.tally.feeds ≤ 2 ^ 60 → IsReady r b
@@ -175,7 +175,7 @@ module _ (r : Rules) (s : Sifter) (some : 0 < length s.pending) (ends : ends_her
             columns = ready.columns;
             header = ready.header;
             begun = subst (λ (t : List ℕ). IsBegun t b.place) (sym line_is) (subst (IsBegun (slice_index s.pending 0 ∷ [])) (sym place_is) (begun_one s.place (slice_index s.pending 0) is_end.0 is_end.1));
-            few = omega (arith, few, ap (λ x. x.tally.feeds) then);
+            few = omega (arith, few, ap (λ x. x.tally.feeds) begun_is);
           }
 
 -- ---- the last line
@@ -200,14 +200,14 @@ module _ (r : Rules) (s : Sifter) (none : s.pending ≡ []) where
   last_left k p line = refl
 
   last_by : (k : List ℕ → Bool) (left : Option (List ℕ)) (pending line ahead ahead' : List ℕ) (p : Place) → IsAtEnd left → pending ≡ [] → ahead' ≡ ahead ++ line_left k line → Keeps (left_by k left ahead pending line p) (prepend_known ahead' left)
-  last_by k None pending line ahead ahead' p end no is = tt
-  last_by k (Some rest) pending line ahead ahead' p end no is =
-      ap (λ (t : List ℕ). ahead' ++ t) end ∙ append-nil ahead' ∙ is ∙ ap (λ (t : List ℕ). ahead ++ t) (sym (last_left k p line) ∙ ap (left_of k p line) (sym (ap (λ (t : List ℕ). t ++ rest) no ∙ end)))
+  last_by k None pending line ahead ahead' p end gone is = tt
+  last_by k (Some rest) pending line ahead ahead' p end gone is =
+      ap (λ (t : List ℕ). ahead' ++ t) end ∙ append-nil ahead' ∙ is ∙ ap (λ (t : List ℕ). ahead ++ t) (sym (last_left k p line) ∙ ap (left_of k p line) (sym (ap (λ (t : List ℕ). t ++ rest) gone ∙ end)))
 
   -- it was closed
   pub done_goes : (o : Opened) (left : Option (List ℕ)) (a : Sifting) (n : Sifter) → a.sifter ≡ s → a.is_done ≡ false → a.halt ≡ None → IsAtEnd left → AreRules o r → n.ahead ≡ s.ahead ++ line_left (keeps r) s.line.items → Counts r s.line.items s.tally n.tally
       → Goes o r left left a (record a { sifter = n; is_done = true })
-  done_goes o left a n at going open end are ahead counts = record {
+  done_goes o left a n at going free end are ahead counts = record {
     keeps = subst (λ (b : Bool). Keeps (if b then prepend_known a.sifter.ahead left else sifter_left r left a.sifter) (prepend_known n.ahead left)) (sym going)
         (subst (λ x. Keeps (sifter_left r left x) (prepend_known n.ahead left)) (sym at) (last_by (keeps r) left s.pending s.line.items s.ahead n.ahead s.place end none ahead));
     is = λ is.
@@ -221,7 +221,7 @@ module _ (r : Rules) (s : Sifter) (none : s.pending ≡ []) where
             all = all_read o.query.reading o.from (prepend_known s.pending left) (o.header ∷ before.rows) s.tally.feeds s.line.items before.read (end_of left end);
             end = end;
           };
-          halted = subst (λ h. IsHalted h (record a { sifter = n; is_done = true })) (sym open) (subst (λ h. IsHalted h a) open is.halted);
+          halted = subst (λ h. IsHalted h (record a { sifter = n; is_done = true })) (sym free) (subst (λ h. IsHalted h a) free is.halted);
         };
   }
     where

@@ -63,7 +63,7 @@ impl Sifting {
         ensures sifting { (o : Opened) → AreRules o rules.now → IsSifting o (S.left source.old) rules.now self.old → IsSifting o (S.left source.new) rules.now self.new }
         ensures cause { HasCause (S.faults source.old + self.old.lacks) (S.faults source.new + self.new.lacks) result }
     {
-        for _ in 0..u64::MAX {
+        'pieces: for _ in 0..u64::MAX {
             if self.is_done || !self.sifter.ahead.is_empty() {
                 return Ok(self.sifter.ahead.give(buf));
             }

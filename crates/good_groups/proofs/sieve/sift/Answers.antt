@@ -2,7 +2,7 @@ use Rattle.good_groups.proofs.Steps.{sifts_none, sifts_then}
 use Rattle.good_groups.proofs.sieve.sift.Goals as goal
 
 pub lines-init : goal.lines-init
-lines-init c = record { ready = c.requires; sifts = sifts_none c.args.rules.now c.args.sifter.now }
+lines-init c = record { ready = c.requires.ready; sifts = sifts_none c.args.rules.now c.args.sifter.now }
 
 pub lines-preserved : goal.lines-preserved
 lines-preserved c = record {
