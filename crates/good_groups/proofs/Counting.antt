@@ -1,6 +1,6 @@
 -- What was counted of rows, with one row more.
-use Rattle.std.proofs.Common.{◌≡◌, ◌<◌, ◌≤◌, ◌+◌, ◌++◌, ◌^◌, ◌∙◌, ℕ, List, [], ◌∷◌, All, None, Option, Some, ap, append-nil, arith, length, length-append, map, refl, subst, sym}
-use Rattle.std.specs.Prelude.{option_map}
+use Rattle.std.proofs.Common.{◌≡◌, ◌<◌, ◌≤◌, ◌+◌, ◌++◌, ◌^◌, ◌∙◌, ℕ, List, [], ◌∷◌, All, None, Option, Some, true, false, ap, append-nil, arith, length, length-append, map, refl, subst, sym}
+use Rattle.std.specs.Prelude.{is_some, option_map}
 use Rattle.std.specs.List.{cons_option, enumerate_from, filter_map}
 use Rattle.std.proofs.lemmas.List.{length-map}
 use Rattle.std.proofs.lemmas.List.Elements.{All-cons, All-nil, filter_map-append}
@@ -9,6 +9,9 @@ use Rattle.par_model.specs.Refuse.{numbered_refusal, refusal, refused_rows}
 use Rattle.par_model.specs.declared.refusal.Refusal.{Refusal}
 use Rattle.partial_agg.specs.Rows.{IsAccepted}
 use Rattle.row_blocks.specs.Blocks.{Table}
+use Rattle.stream_groups.specs.Stops.{Tells}
+use Rattle.stream_groups.specs.Ways.{of_text}
+use Rattle.stream_groups.specs.declared.stop.Stop.TheVariants as stop
 use Rattle.stream_groups.specs.declared.stop.RefusedRow.{RefusedRow}
 use Rattle.good_groups.specs.Counted.{HasCounted, IsFirst}
 use Rattle.good_groups.specs.Opened.{Opened}
@@ -128,3 +131,17 @@ module _ (o : Opened) (bound : Plan) where
         most = omega (arith, less, counted);
         first = first;
       })
+
+  -- no row is known to be refused
+  pub no_first : (rows : Table) (f : Option RefusedRow) → is_some f ≡ false → IsFirst o bound rows f → refused_rows bound (length o.header) rows ≡ []
+  no_first rows None none is = is
+  no_first rows (Some r) none is = let bad : true ≡ false = none in cc bad
+
+  -- one is known now
+  pub known_first : (t : Tally) (rows : Table) (r : RefusedRow) → HasCounted o bound t rows → Tells (of_text o.query.reading) o.query o.from (stop.Refused r) → HasCounted o bound (record t { first = Some r }) rows
+  known_first t rows r has tells = record { number = has.number; few = has.few; count = has.count; most = has.most; first = tells }
+
+  -- it stays
+  pub first_later : (rows more : Table) (f : Option RefusedRow) → is_some f ≡ true → IsFirst o bound rows f → IsFirst o bound more f
+  first_later rows more None some is = let bad : false ≡ true = some in cc bad
+  first_later rows more (Some r) some is = is

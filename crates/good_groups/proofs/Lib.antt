@@ -4,3 +4,6 @@ mod Counting
 mod Rows
 mod Steps
 mod Ends
+mod Begins
+mod Goes
+mod Gives

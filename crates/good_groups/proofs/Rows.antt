@@ -104,9 +104,9 @@ module _ (r : Rules) (line : List ℕ) (begins : BeginsLine line) (header_one : 
         }
 
     -- the first row that is refused is told
-    pub line_tells : (o : Opened) (left : Option (List ℕ)) (t : Tally) (rows : Table) (rest : List ℕ) (why : Refusal) (told : RefusedRow) → AreRules o r → IsSeparator r.plan.now.reading.separator → IsNext o left r t.feeds rows line rest
+    pub line_tells : (o : Opened) (left : Option (List ℕ)) (t : Tally) (rows : Table) (rest : List ℕ) (why : Refusal) (told : RefusedRow) → AreRules o r → IsNext o left r t.feeds rows line rest
         → HasCounted o r.bound.now t rows → refused_rows r.bound.now (length o.header) rows ≡ [] → refusal r.bound.now r.width fields ≡ Some why → AreOfLine r line (t.rows + 1) t.feeds why told → Tells (of_text o.query.reading) o.query o.from (stop.Refused told)
-    line_tells o left t rows rest why told are sep next has none bad of =
+    line_tells o left t rows rest why told are next has none bad of =
         let query = r.plan.now in
         let same : o.header ≡ heading = ap (λ (l : Table). record_at l 0) (sym are.one) ∙ ap (λ (q : _). record_at (records_as q.reading r.header.now) 0) (sym are.query) in
         let under : AreUnder o.header (w ∷ []) = subst (λ (h : List (List ℕ)). AreUnder h (w ∷ [])) (sym same) stretch_under in
@@ -124,4 +124,4 @@ module _ (r : Rules) (line : List ℕ) (begins : BeginsLine line) (header_one : 
         } in
         refused_tells o.query o.header r.bound.now are.bound o.from left t.rows rows t.feeds (w ∷ []) rest (answer.Row 1 why.cause why.item) (stop.Refused told) has.number has.few (omega arith) begun (λ _. next.part)
         (All-cons (IsLined o.query.reading) w [] (subst (λ (q : _). IsLined q.reading w) are.query stretch_lined) (All-nil (IsLined o.query.reading))) (all_accepted r.bound.now (length o.header) rows none) under cause
-        (λ _. inl (told, refl, subst (λ (q : _). AreOfRow q.reading q.plan r.bound.now (w ∷ []) (t.rows + 1) 1 t.feeds why told) are.query (of sep cut)))
+        (λ _. inl (told, refl, subst (λ (q : _). AreOfRow q.reading q.plan r.bound.now (w ∷ []) (t.rows + 1) 1 t.feeds why told) are.query (of cut)))

@@ -1,7 +1,7 @@
 -- What was counted of the rows of a source.
 use Rattle.std.specs.Prelude.{◌≡◌, ◌≢◌, ◌<◌, ◌≤◌, ◌+◌, ◌++◌, ◌^◌, ◌∷◌, [], ℕ, List, None, Option, Some, length}
 use Rattle.csv_rows.specs.Cuts.{IsCut}
-use Rattle.csv_rows.specs.Readings.{IsSeparator, records_as}
+use Rattle.csv_rows.specs.Readings.{records_as}
 use Rattle.par_model.specs.Plan.{Plan}
 use Rattle.par_model.specs.Refuse.{refused_rows}
 use Rattle.row_blocks.specs.Blocks.{Table}
@@ -58,4 +58,4 @@ CountsNot r line old new = (o : Opened) (left : Option (List ℕ)) (rows : Table
 
 -- the row of a line is refused so, has this number, and is so told
 abbrev pub AreOfLine : Rules → List ℕ → ℕ → ℕ → Refusal → RefusedRow → Type 0
-AreOfLine r line row feeds why told = IsSeparator r.plan.now.reading.separator → IsCut r.header.now → AreOfRow r.plan.now.reading r.plan.now.plan r.bound.now (line_stretch r line ∷ []) row 1 feeds why told
+AreOfLine r line row feeds why told = IsCut r.header.now → AreOfRow r.plan.now.reading r.plan.now.plan r.bound.now (line_stretch r line ∷ []) row 1 feeds why told

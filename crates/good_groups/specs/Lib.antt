@@ -3,3 +3,4 @@ pub mod Counted
 pub mod Sifting
 pub mod Sieve
 pub mod Good
+pub mod Begun

@@ -25,7 +25,8 @@ use std::marker::{Brand, PhantomData};
 use std::sync::Wait;
 use std::thread::Threads;
 use stream_groups::{
-    First, Progress, ReadGroups, RefusedRow, Separated, Stop, Taken, bind, first_window, read_groups,
+    First, Progress, ReadGroups, RefusedRow, Separated, Stop, Taken, bind, first_window,
+    read_groups,
 };
 
 /// How many rows were left out, at least one, and the first of them.
@@ -66,9 +67,7 @@ pub fn read_good<R: Threads + Wait + Sync, S: Source, P: Progress>(
     ensures no_write { IfErr result (λ why. (why ≡ stop.WriteFault) → ⊥) }
 {
     source.separate(plan.reading().separator);
-    read_text::<R, Separated<S>, P, Brand>(
-        rt, alloc, plan, workers, most, source, size, progress,
-    )
+    read_text::<R, Separated<S>, P, Brand>(rt, alloc, plan, workers, most, source, size, progress)
 }
 
 /// The same of a text in which the comma and the plan's separator are exchanged.
@@ -134,7 +133,9 @@ fn read_rows<R: Threads + Wait + Sync, S: Source, P: Progress, I: Origin>(
         origin: PhantomData,
     };
     let mut taken = Taken::Bytes(0);
-    let read = read_groups(rt, alloc, plan, workers, &mut sieve, size, progress, &mut taken);
+    let read = read_groups(
+        rt, alloc, plan, workers, &mut sieve, size, progress, &mut taken,
+    );
     let Sieve {
         source: _source,
         sifting,

@@ -1,8 +1,8 @@
 //! A source that gives the header and the good rows of another one.
 
-ghost use Rattle.std.specs.Prelude.{◌≡◌, ◌<◌, ◌+◌, ◌⊎◌, [], ℕ, List, Option, Err, IfErr, IfOk, IsErr, OnOk, Some, false, is_some, length, true};
+ghost use Rattle.std.specs.Prelude.{◌≡◌, ◌<◌, ◌+◌, ◌⊎◌, [], ℕ, List, Option, Err, IfErr, IfOk, IsErr, None, OnOk, Some, false, is_some, length, true};
 ghost use Rattle.std.specs.Io.{ReadsAtMost};
-ghost use Rattle.std.specs.Io.KnownBytes.{IsAtEnd, ReadConsumes};
+ghost use Rattle.std.specs.Io.KnownBytes.{IsAtEnd, Keeps, ReadConsumes};
 ghost use Rattle.par_io.specs.Faults.{HasCause, one_more};
 ghost use Rattle.row_windows.specs.declared.window.TheConstants.{MOST_RECORD_BYTES};
 ghost use Rattle.stream_groups.specs.Stops.{IsStopOfLong, Tells};
@@ -11,7 +11,7 @@ ghost use Rattle.stream_groups.specs.declared.stop.Stop.TheVariants as stop;
 ghost use Rattle.good_groups.specs.Counted.{AreRules};
 ghost use Rattle.good_groups.specs.Good.{IsLeftOut};
 ghost use Rattle.good_groups.specs.Opened.{Opened};
-ghost use Rattle.good_groups.specs.Sifting.{GoesOn, IsReady, IsSifting, Sifts, sifting_left};
+ghost use Rattle.good_groups.specs.Sifting.{GoesOn, IsOpen, IsReady, IsSifting, Sifts, sifter_left, sifting_left};
 ghost use Rattle.good_groups.specs.declared.sifter.Halt.TheVariants as halt;
 ghost use Rattle.good_groups.specs.declared.sifter.Rules.{Rules};
 
@@ -20,9 +20,9 @@ use crate::reading::LeftOut;
 use crate::sifter::{Halt, MOST_ROWS, Rules, Sifter};
 use crate::tally::Tally;
 use par_io::{Failed, Source};
+use row_windows::WindowAnswer;
 use std::alloc::Global;
 use std::marker::{Model, PhantomData};
-use row_windows::WindowAnswer;
 use stream_groups::{Stop, stop_of_window};
 
 /// The most line feeds of a source: 2^60. A source with more of them is answered as out of memory.
@@ -63,7 +63,7 @@ impl Sifting {
         ensures sifting { (o : Opened) → AreRules o rules.now → IsSifting o (S.left source.old) rules.now self.old → IsSifting o (S.left source.new) rules.now self.new }
         ensures cause { HasCause (S.faults source.old + self.old.lacks) (S.faults source.new + self.new.lacks) result }
     {
-        for _ in 0..u64::MAX {
+        'pieces: for _ in 0..u64::MAX {
             if self.is_done || !self.sifter.ahead.is_empty() {
                 return Ok(self.sifter.ahead.give(buf));
             }
@@ -89,7 +89,7 @@ impl Sifting {
         if let Some(halt) = self.halt {
             return self.stop(halt);
         }
-        if self.sifter.pending.is_empty() && !self.sifter.pending.read(source)? {
+        if !refill(&mut self.sifter, source)? {
             return self.close(alloc, rules);
         }
         match sift(&mut self.sifter, alloc, rules) {
@@ -103,6 +103,7 @@ impl Sifting {
         requires going { self.old.is_done ≡ false }
         requires ready { IsReady rules.now self.old.sifter }
         requires none { self.old.sifter.pending ≡ [] }
+        requires open { self.old.halt ≡ None }
         ensures ready { self.new.is_done ≡ false → IsReady rules.now self.new.sifter }
         ensures goes { (o : Opened) (left : Option (List ℕ)) → IsAtEnd left → AreRules o rules.now → GoesOn o rules.now left left self.old self.new }
         ensures cause { HasCause self.old.lacks self.new.lacks result }
@@ -136,7 +137,10 @@ impl Sifting {
         let Sifting { sifter, halt, .. } = self;
         let Sifter { line, tally, .. } = sifter;
         let Tally {
-            rows, feeds, first, ..
+            rows,
+            feeds,
+            first,
+            ..
         } = tally;
         match halt {
             None => Stop::ReadFault,
@@ -161,7 +165,9 @@ impl Sifting {
         ensures why { IfErr result (λ why. why ≡ stop.Memory) }
     {
         let Sifting {
-            sifter, is_done, ..
+            sifter,
+            is_done,
+            ..
         } = self;
         if !is_done {
             return Err(Stop::Memory);
@@ -186,6 +192,20 @@ fn long_stop(alloc: Global, rows: u64, feeds: u64, line: &[u8]) -> Stop
         return Stop::Memory;
     }
     stop_of_window(alloc, WindowAnswer::LongRecord, rows + 1, feeds, line)
+}
+
+/// Reads a piece more unless there are bytes that were read. Says whether there are some now.
+fn refill<S: Source>(sifter: &mut Sifter, source: &mut S) -> Result<bool, Failed>
+    ensures same { sifter.new ≡ record sifter.old { pending = sifter.new.pending } }
+    ensures left { (r : Rules) → Keeps (sifter_left r (S.left source.old) sifter.old) (sifter_left r (S.left source.new) sifter.new) }
+    ensures counts { (r : Rules) (o : Opened) → IsOpen o (S.left source.old) r sifter.old → IsOpen o (S.left source.new) r sifter.new }
+    ensures end { IfOk result (λ some. some ≡ false → (sifter.new.pending ≡ []) × IsAtEnd (S.left source.new)) }
+    ensures cause { HasCause (S.faults source.old) (S.faults source.new) result }
+{
+    if !sifter.pending.is_empty() {
+        return Ok(true);
+    }
+    sifter.pending.read(source)
 }
 
 /// Sifts all bytes that were read.

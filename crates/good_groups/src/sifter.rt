@@ -16,7 +16,7 @@ ghost use Rattle.good_groups.specs.declared.sifter.Halt.TheVariants as halt;
 use crate::bytes::Bytes;
 use crate::piece::Piece;
 use crate::tally::Tally;
-use csv_rows::{Place, RowStore, exchange, rows_as, scanned};
+use csv_rows::{Place, Reading, RowStore, exchange, rows_as, scanned};
 use good_rows::{Judged, judge, line_end};
 use par_model::{BoundPlan, Refusal};
 use plan_spec::Plan;
@@ -145,6 +145,32 @@ impl Sifter {
 }
 
 impl Tally {
+    /// Makes what is said of the row of a line, which comes after those that were counted and is refused, unless there was one
+    /// before.
+    fn know(
+        &mut self,
+        alloc: Global,
+        rules: &Rules<'_>,
+        line: &[u8],
+        why: Refusal,
+    ) -> Result<(), AllocError>
+        requires begins { BeginsLine line.now }
+        requires one { length (records_as rules.now.plan.now.reading line.now) ≡ 1 }
+        requires header { length (records_as rules.now.plan.now.reading rules.now.header.now) ≡ 1 }
+        requires cause { refusal rules.now.bound.now rules.now.width (record_at (records_as rules.now.plan.now.reading line.now) 0) ≡ Some why }
+        requires feeds { self.old.feeds ≤ 2 ^ 60 }
+        requires rows { self.old.rows < 2 ^ 50 }
+        ensures same { self.new ≡ record self.old { first = self.new.first } }
+        ensures not { CountsNot rules.now line.now self.old self.new }
+        ensures some { OnOk result (is_some self.new.first ≡ true) }
+    {
+        if self.first.is_some() {
+            return Ok(());
+        }
+        self.first = Some(refused_row(alloc, rules, line, self.rows + 1, self.feeds, why)?);
+        Ok(())
+    }
+
     /// Notes the row of a line, which comes after those that were counted: it is refused. Fails if no more may be left out.
     fn note(
         &mut self,
@@ -166,9 +192,7 @@ impl Tally {
         ensures too_many { result ≡ Err halt.TooMany → is_some self.new.first ≡ true }
         ensures why { result ≡ Err halt.Long → ⊥ }
     {
-        if self.first.is_none() {
-            self.first = Some(refused_row(alloc, rules, line, self.rows + 1, self.feeds, why)?);
-        }
+        self.know(alloc, rules, line, why)?;
         if self.count >= rules.most {
             return Err(Halt::TooMany);
         }
@@ -191,8 +215,9 @@ fn refused_row(
     requires feeds { feeds ≤ 2 ^ 60 }
     ensures { IfOk result (λ r. AreOfLine rules.now line.now row feeds why r) }
 {
-    let header = one_record(alloc, rules, rules.header)?;
-    let fields = one_record(alloc, rules, line)?;
+    let reading = rules.plan.reading();
+    let header = one_record(alloc, reading, rules.header)?;
+    let fields = one_record(alloc, reading, line)?;
     let mut said = row_says(
         alloc,
         rules.plan,
@@ -213,10 +238,10 @@ fn refused_row(
 }
 
 /// The records of bytes that have one.
-fn one_record(alloc: Global, rules: &Rules<'_>, bytes: &[u8]) -> Result<RowStore, AllocError>
-    ensures { IfOk result (λ store. store ≡ records_as rules.now.plan.now.reading bytes.now) }
+fn one_record(alloc: Global, reading: &Reading, bytes: &[u8]) -> Result<RowStore, AllocError>
+    ensures { IfOk result (λ store. store ≡ records_as reading.now bytes.now) }
 {
-    match rows_as(alloc, rules.plan.reading(), bytes) {
+    match rows_as(alloc, reading, bytes) {
         Ok(store) => Ok(store),
         Err(_) => Err(AllocError),
     }

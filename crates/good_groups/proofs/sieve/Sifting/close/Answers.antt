@@ -1,23 +1,21 @@
-use Rattle.std.proofs.Common.{rules, ◌≡◌, ◌<◌, ◌+◌, ◌⊎◌, [], ℕ, List, Option, Err, IfErr, IfOk, IsErr, OnOk, Some, false, is_some, length, true, ◌-◌, ◌*◌, ◌≤◌, ◌/◌, ◌%◌, Bool, nat_eq, nat_lt, ◌∷◌, ◌++◌, slice_index_or, slice_set, bit_and, bit_or, Fits, w8, w32, w64, Bor, MutBor}
-use Rattle.std.specs.Io.{ReadsAtMost}
-use Rattle.std.specs.Io.KnownBytes.{IsAtEnd, ReadConsumes}
-use Rattle.par_io.specs.Faults.{HasCause, one_more}
-use Rattle.row_windows.specs.declared.window.TheConstants.{MOST_RECORD_BYTES}
-use Rattle.stream_groups.specs.Stops.{IsStopOfLong, Tells}
-use Rattle.stream_groups.specs.Ways.{of_text}
-use Rattle.stream_groups.specs.declared.stop.Stop.TheVariants as stop
-use Rattle.good_groups.specs.Counted.{AreRules}
-use Rattle.good_groups.specs.Good.{IsLeftOut}
-use Rattle.good_groups.specs.Opened.{Opened}
-use Rattle.good_groups.specs.Sifting.{GoesOn, IsReady, IsSifting, Sifts, sifting_left}
-use Rattle.good_groups.specs.declared.sifter.Halt.TheVariants as halt
-use Rattle.good_groups.specs.declared.sifter.Rules.{Rules}
+use Rattle.std.proofs.Common.{◌∙◌, [], Err, ap, refl}
+use Rattle.good_groups.specs.Sifting.{IsOpen}
+use Rattle.good_groups.proofs.Goes.{halted_goes, keeps_same}
+use Rattle.good_groups.proofs.Steps.{done_goes, next_end, not_counted, sifts_same}
 use Rattle.good_groups.proofs.sieve.Sifting.close.Goals as goal
 
--- src/sieve.rt:102:5
 pub returns-in-Ok-clause-goes : goal.returns-in-Ok-clause-goes
-returns-in-Ok-clause-goes c = ?
+returns-in-Ok-clause-goes c = λ o left end are.
+    let self = c.args.self.now in
+    done_goes c.args.rules.now self.sifter c.requires.none o left self c.close_line.new.self refl c.requires.going c.requires.open end are c.in-Ok.ensures.ahead c.in-Ok.ensures.counts
 
--- src/sieve.rt:102:5
 pub returns-in-Err-clause-goes : goal.returns-in-Err-clause-goes
-returns-in-Err-clause-goes c = ?
+returns-in-Err-clause-goes c = λ o left end are.
+    let self = c.args.self.now in
+    let r = c.args.rules.now in
+    let s = self.sifter in
+    let n = c.close_line.new.self in
+    let is = c.in-Err.ensures in
+    let keeps = keeps_same _ _ (sifts_same r s n is.same is.err left) in
+    let opens = λ (before : IsOpen o left r s). not_counted r s n is.same is.not_feeds o left before (is.not o _ before.rows [] are (next_end r s c.requires.none o left end before) before.counted) in
+    halted_goes o r left left self c.requires.going n c.in-Err.halt c.stop.new.self c.stop.ensures.same keeps opens (λ e. is.too_many (ap Err e)) (λ e. absurd (is.why (ap Err e)))
