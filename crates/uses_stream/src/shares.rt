@@ -71,15 +71,15 @@ fn counted<R: Threads + Wait + Sync>(
     let plan = Plan::of_words(alloc, words.as_slice())
         .ok()
         .ok_or("a plan")?;
-    let mut pieces = Vec::new(alloc);
-    pieces.push(whole(alloc, text)?)?;
-    let piece = &pieces.as_slice()[0];
-    let store = rows_as(alloc, piece.reading(), piece.table())
+    let window = whole(alloc, text)?;
+    let store = rows_as(alloc, window.reading(), window.table())
         .ok()
         .ok_or("a store")?;
     let Ok(bound) = plan.bind(&store) else {
         return Err("columns".into());
     };
+    let mut pieces = Vec::new(alloc);
+    pieces.push(window)?;
     match shared_groups(rt, alloc, pieces.as_slice(), &bound, participants) {
         Ok(groups) => Ok(Ok(groups.len())),
         Err(BlockAnswer::Row { row, .. }) => Ok(Err(row)),
