@@ -1,6 +1,5 @@
 -- Why a query that leaves out refused rows has no table, and what is said if it has one, by what was kept of it.
-use Rattle.std.proofs.Common.{◌≡◌, ◌≢◌, ◌∙◌, ◌++◌, [], ℕ, List, Option, None, Some, IfSome, ap, append-nil, inl, inr, refl, subst, sym}
-use Rattle.std.specs.Io.KnownBytes.{Appends}
+use Rattle.std.proofs.Common.{◌≡◌, ◌≢◌, ◌∙◌, ◌++◌, [], ℕ, List, Option, None, Some, ap, append-nil, inl, inr, refl, subst, sym}
 use Rattle.answer_text.specs.Lines.{IsSaid}
 use Rattle.answer_text.specs.declared.status.TheConstants.{TABLE}
 use Rattle.good_groups.specs.declared.reading.LeftOut.{LeftOut}

@@ -1,5 +1,5 @@
 -- What is shown of the table of a query that leaves out rows that are refused.
-use Rattle.std.specs.Prelude.{◌≡◌, ◌∷◌, ℕ, List, None, Option, Some, Result, Ok, Err, IfSome}
+use Rattle.std.specs.Prelude.{◌∷◌, ℕ, List, Option, Result, Ok, Err, IfSome}
 use Rattle.answer_text.specs.Lines.{IsSaid}
 use Rattle.good_groups.specs.declared.reading.LeftOut.{LeftOut}
 use Rattle.good_stream.specs.Good.{IsGoodText}
