@@ -1,12 +1,17 @@
 //! The groups of the good rows.
 
-ghost use Rattle.std.specs.Prelude.{◌≡◌, ◌≤◌, ℕ, List, Option, IfErr, IfOk, IfSome, Some};
+ghost use Rattle.std.specs.Prelude.{◌≡◌, ◌≤◌, ◌++◌, [], ℕ, List, None, Option, IfErr, IfOk, IfSome, OnOk, Some, true};
+ghost use Rattle.csv_rows.specs.declared.place.Place.TheVariants as place;
 ghost use Rattle.par_io.specs.Faults.{Rose};
 ghost use Rattle.stream_groups.specs.Reading.{AreGroupsOver};
 ghost use Rattle.stream_groups.specs.Sources.{bare_faults, bare_left};
 ghost use Rattle.stream_groups.specs.Stops.{Tells};
 ghost use Rattle.stream_groups.specs.Ways.{of_bytes, of_text};
 ghost use Rattle.stream_groups.specs.declared.stop.Stop.TheVariants as stop;
+ghost use Rattle.good_groups.specs.Begun.{IsBegunOver, IsFirstOf};
+ghost use Rattle.good_groups.specs.Counted.{AreRules};
+ghost use Rattle.good_groups.specs.Opened.{Opened};
+ghost use Rattle.good_groups.specs.declared.sifter.Rules.{Rules};
 ghost use Rattle.good_groups.specs.Good.{IsLeftOut, good_way};
 ghost use Rattle.good_groups.specs.Sieve.{IsSieve};
 ghost use Rattle.good_groups.specs.Sifting.{sifting_left};
@@ -93,6 +98,9 @@ fn read_text<R: Threads + Wait + Sync, S: Source, P: Progress, I: Origin>(
     let mut taken = Taken::Bytes(0);
     let size = size.min(FIRST_BYTES);
     let first = first_window(rt, alloc, plan.reading(), source, size, &mut taken)?;
+    let Taken::Bytes(_) = taken else {
+        return Err(Stop::Memory);
+    };
     let bound = bind(alloc, plan, &first.header)?;
     let sifting = begin(alloc, &first)?;
     let rules = Rules {
@@ -150,29 +158,49 @@ fn read_rows<R: Threads + Wait + Sync, S: Source, P: Progress, I: Origin>(
     }
 }
 
-/// Begins to sift what comes after the header.
-fn begin(alloc: Global, first: &First) -> Result<Sifting, AllocError> {
+/// Begins to sift what comes after the header: nothing, if there is no line.
+fn begin(alloc: Global, first: &First) -> Result<Sifting, AllocError>
+    ensures { IfOk result (λ s. (o : Opened) (left : Option (List ℕ)) (r : Rules) → AreRules o r → IsFirstOf o left r first.now → IsBegunOver o left r s) }
+{
+    let text = text_after(alloc, first)?;
     let mut ahead = Bytes::new(Vec::new(alloc));
     ahead.put(first.window.header())?;
-    let mut text = Vec::from_slice(alloc, first.window.lines())?;
-    if first.is_last {
-        // The last window has no rest.
-        if !first.window.rest().is_empty() {
-            return Err(AllocError);
-        }
-    } else {
-        text.extend_from_slice(first.window.rest())?;
-    }
-    let is_done = text.is_empty();
     let mut line = Vec::new(alloc);
-    if !is_done {
-        line.push(text[0])?;
+    if text.is_empty() {
+        let pending = Piece::new(text)?;
+        return Ok(sifting_of(line, pending, ahead, first.feeds, true));
     }
+    line.push(text[0])?;
     let mut pending = Piece::new(text)?;
-    if !is_done {
-        pending.skip(1);
+    pending.skip(1);
+    Ok(sifting_of(line, pending, ahead, first.feeds, false))
+}
+
+/// What was read after the header. The last window has no rest; if one should have one, memory is said to lack.
+fn text_after(alloc: Global, first: &First) -> Result<Vec<u8>, AllocError>
+    ensures text { IfOk result (λ text. text.items ≡ first.now.window.lines ++ first.now.window.rest) }
+    ensures last { OnOk result (first.now.is_last ≡ true → first.now.window.rest ≡ []) }
+{
+    let rest = first.window.rest();
+    if first.is_last && !rest.is_empty() {
+        return Err(AllocError);
     }
-    Ok(Sifting {
+    let mut text = Vec::from_slice(alloc, first.window.lines())?;
+    text.extend_from_slice(rest)?;
+    Ok(text)
+}
+
+/// A text of which nothing was counted yet, after so many line feeds.
+fn sifting_of(
+    line: Vec<u8>,
+    pending: Piece,
+    ahead: Bytes,
+    feeds: u64,
+    is_done: bool,
+) -> Sifting
+    ensures { result ≡ record { sifter = record { line = line; place = place.Opens; pending = pending; ahead = ahead; tally = record { rows = 0; feeds = feeds; count = 0; first = None } }; is_done = is_done; halt = None; lacks = 0 } }
+{
+    Sifting {
         sifter: Sifter {
             line,
             place: Place::Opens,
@@ -180,7 +208,7 @@ fn begin(alloc: Global, first: &First) -> Result<Sifting, AllocError> {
             ahead,
             tally: Tally {
                 rows: 0,
-                feeds: first.feeds,
+                feeds,
                 count: 0,
                 first: None,
             },
@@ -188,5 +216,5 @@ fn begin(alloc: Global, first: &First) -> Result<Sifting, AllocError> {
         is_done,
         halt: None,
         lacks: 0,
-    })
+    }
 }
