@@ -125,7 +125,7 @@ ends_first p pending left at is some ends =
     let here : at + 0 ≡ at = omega arith in
     (many, ap (ends_here p) (ap (λ (t : List ℕ). slice_index t 0) is ∙ get_or-drop at pending 0 0 ∙ ap (slice_index pending) here) ∙ ends (omega (arith, many, ap length is, length-drop at pending)))
 
-first_rest : (xs : List ℕ) → 0 < length xs → xs ≡ slice_index xs 0 ∷ drop 1 xs
+pub first_rest : (xs : List ℕ) → 0 < length xs → xs ≡ slice_index xs 0 ∷ drop 1 xs
 first_rest [] some = absurd (omega (arith, some))
 first_rest (x ∷ xs) some = refl
 
