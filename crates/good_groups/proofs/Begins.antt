@@ -1,6 +1,6 @@
 -- What there is after the header.
-use Rattle.std.proofs.Common.{◌≡◌, ◌≢◌, ◌⊎◌, inl, inr, ◌<◌, ◌≤◌, ◌+◌, ◌++◌, ◌^◌, ◌∙◌, ℕ, Bool, true, false, List, [], ◌∷◌, Option, None, Some, IfSome, ap, append-nil, append_assoc, arith, length, refl, subst, sym}
-use Rattle.std.specs.Prelude.{◌==◌, if◌then◌else◌, option_map}
+use Rattle.std.proofs.Common.{◌≡◌, ◌≢◌, ◌⊎◌, inl, inr, ◌<◌, ◌≤◌, ◌+◌, ◌++◌, ◌^◌, ◌∙◌, ℕ, Bool, true, false, List, [], ◌∷◌, Option, None, Some, IfSome, ap, append-nil, append_assoc, arith, get_or, length, length-append, refl, subst, sym}
+use Rattle.std.specs.Prelude.{◌==◌, if◌then◌else◌, option_map, slice_index}
 use Rattle.std.proofs.lemmas.Bool.{cases_Bool, cases_lt, eqb-true}
 use Rattle.std.specs.Io.KnownBytes.{IsAtEnd, prepend_known}
 use Rattle.csv_rows.specs.Cuts.{IsCut}
@@ -25,14 +25,15 @@ use Rattle.good_rows.specs.Lines.{IsBegun, ends_here, left_of, line_left}
 use Rattle.good_rows.proofs.Left.{begins_one, begun_one, rows_left}
 use Rattle.stream_groups.specs.Begins.{BeginsOrNone}
 use Rattle.stream_groups.specs.declared.filling.First.{First}
-use Rattle.stream_groups.specs.Reading.{ArePart, AreRead, HasPart, HasRead}
+use Rattle.stream_groups.specs.Reading.{ArePart, AreRead, HasAll, HasPart, HasRead}
 use Rattle.stream_groups.proofs.ReadAs.{as_add_up, none_as}
 use Rattle.good_groups.specs.Begun.{IsBegunOver, IsFirstOf}
 use Rattle.good_groups.specs.Counted.{AreRules, HasCounted}
 use Rattle.good_groups.specs.Good.{good_records}
 use Rattle.good_groups.specs.Opened.{Opened}
-use Rattle.good_groups.specs.Sifting.{IsHalted, keeps, sifting_left}
+use Rattle.good_groups.specs.Sifting.{IsHalted, keeps, sifter_left, sifting_left}
 use Rattle.good_groups.specs.declared.sieve.Sifting.{Sifting}
+use Rattle.good_groups.proofs.Steps.{same_left}
 use Rattle.good_groups.specs.declared.sifter.Rules.{Rules}
 
 -- what is left begins as the line does
@@ -104,9 +105,14 @@ module _ (o : Opened) (r : Rules) (are : AreRules o r) where
 
 -- ---- the first window
 
-nothing : (xs : List ℕ) → length xs ≤ 0 → xs ≡ []
+pub nothing : (xs : List ℕ) → length xs ≤ 0 → xs ≡ []
 nothing [] few = refl
 nothing (x ∷ xs) few = absurd (omega (arith, few))
+
+-- the first byte, whatever stands for none
+pub first_default : (xs : List ℕ) (d : ℕ) → 0 < length xs → get_or xs 0 d ≡ slice_index xs 0
+first_default [] d some = absurd (omega (arith, some))
+first_default (x ∷ xs) d some = refl
 
 line_place : (c : ℕ) → is_line_end c ≡ true → place_after place.Opens (c ∷ []) ≡ place.Opens
 unfolding place_after
@@ -167,7 +173,9 @@ module _ (o : Opened) (left : Option (List ℕ)) (r : Rules) (are : AreRules o r
         let ends = begins_is f.window.lines f.window.rest c more f.is_last text is.lined.begins none is.header.next in
         let read = first_read c more text ends in
         let begun : IsBegun (c ∷ []) place.Opens = subst (IsBegun (c ∷ [])) (line_place c ends) (begun_one place.Opens c ends (λ e. cc e)) in
-        let left_is : sifting_left r left s ≡ prepend_known r.header.now (option_map (left_of (keeps r) place.Opens (c ∷ [])) (prepend_known more left)) = rw (going, ahead, line, at, pending) refl in
+        let left_is : sifting_left r left s ≡ prepend_known r.header.now (option_map (left_of (keeps r) place.Opens (c ∷ [])) (prepend_known more left)) =
+        ap (λ (d : Bool). if d then prepend_known s.sifter.ahead left else sifter_left r left s.sifter) going
+        ∙ same_left (keeps r) left s.sifter.ahead r.header.now s.sifter.pending more s.sifter.line.items (c ∷ []) s.sifter.place place.Opens (sym ahead) (sym pending) (sym line) (sym at) in
         record {
           is = record {
             going = λ _. record {
@@ -187,3 +195,35 @@ module _ (o : Opened) (left : Option (List ℕ)) (r : Rules) (are : AreRules o r
           good = subst (λ x. IfSome o.from (λ bytes. (text : List ℕ) × (x ≡ Some text) × (records_as o.query.reading text ≡ good_records o.query (records_as o.query.reading bytes)))) (sym left_is)
               (good_left o r are o.from left f.feeds c more place.Opens begun read);
         }
+
+    -- or there is none
+    pub none_begun : f.window.lines ++ f.window.rest ≡ [] → s.is_done ≡ true → IsBegunOver o left r s
+    none_begun text done =
+        let empty : f.window.lines ≡ [] = nothing f.window.lines (omega (arith, ap length text, length-append f.window.lines f.window.rest)) in
+        let rest : f.window.rest ≡ [] = nothing f.window.rest (omega (arith, ap length text, length-append f.window.lines f.window.rest)) in
+        let last : f.is_last ≡ true = elim (cases_Bool f.is_last) [
+          | inl e ↦ e
+          | inr e ↦ absurd (omega (arith, (is.header.next e).some, ap length rest))
+        ] in
+        let records : piece_records f.window ≡ o.header ∷ [] =
+        is.header.records ∙ ap (λ (l : Table). record_at f.header 0 ∷ l) (is.lined.rows ∙ ap (records_as o.query.reading) empty ∙ none_as o.query.reading) ∙ ap (λ (h : List (List ℕ)). h ∷ []) is.one in
+        let all = subst (HasAll o.query.reading o.from) records (is.reaches.all last) in
+        let end = is.end last in
+        let left_is : sifting_left r left s ≡ prepend_known r.header.now left =
+        ap (λ (d : Bool). if d then prepend_known s.sifter.ahead left else sifter_left r left s.sifter) done ∙ ap (λ (t : List ℕ). prepend_known t left) ahead in
+        record {
+          is = record {
+            going = λ e. let bad : true ≡ false = sym done ∙ e in cc bad;
+            done = λ _. record { rows = []; counted = subst (λ t. HasCounted o r.bound.now t []) (sym tally) (count_nothing o r.bound.now f.feeds); all = all; end = end };
+            halted = halted;
+          };
+          fresh = fresh;
+          good = subst (λ x. IfSome o.from (λ bytes. (text : List ℕ) × (x ≡ Some text) × (records_as o.query.reading text ≡ good_records o.query (records_as o.query.reading bytes)))) (sym left_is) (good_none o.from left all end is.known);
+        }
+      where
+        good_none : (from left : Option (List ℕ)) → HasAll o.query.reading from (o.header ∷ []) → IsAtEnd left → IfSome from (λ bytes. (rest : List ℕ) × (left ≡ Some rest))
+            → IfSome from (λ bytes. (text : List ℕ) × (prepend_known r.header.now left ≡ Some text) × (records_as o.query.reading text ≡ good_records o.query (records_as o.query.reading bytes)))
+        good_none None left all end known = tt
+        good_none (Some bytes) None all end known = let bad = known.1 in cc bad
+        good_none (Some bytes) (Some rest) all end known =
+            (r.header.now ++ rest, refl, ap (records_as o.query.reading) (ap (λ (t : List ℕ). r.header.now ++ t) end ∙ append-nil r.header.now) ∙ are.one ∙ ap (good_records o.query) (sym all))
