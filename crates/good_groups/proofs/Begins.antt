@@ -2,7 +2,7 @@
 use Rattle.std.proofs.Common.{◌≡◌, ◌≢◌, ◌⊎◌, inl, inr, ◌<◌, ◌≤◌, ◌+◌, ◌++◌, ◌^◌, ◌∙◌, ℕ, Bool, true, false, List, [], ◌∷◌, Option, None, Some, IfSome, ap, append-nil, append_assoc, arith, get_or, length, length-append, refl, subst, sym}
 use Rattle.std.specs.Prelude.{◌==◌, if◌then◌else◌, option_map, slice_index}
 use Rattle.std.proofs.lemmas.Bool.{cases_Bool, cases_lt, eqb-true}
-use Rattle.std.specs.Io.KnownBytes.{IsAtEnd, prepend_known}
+use Rattle.std.specs.Io.KnownBytes.{Consumes, IsAtEnd, prepend_known}
 use Rattle.csv_rows.specs.Cuts.{IsCut}
 use Rattle.csv_rows.specs.Places.{place_after}
 use Rattle.csv_rows.specs.Readings.{records_as}
@@ -227,3 +227,9 @@ module _ (o : Opened) (left : Option (List ℕ)) (r : Rules) (are : AreRules o r
         good_none (Some bytes) None all end known = let bad = known.1 in cc bad
         good_none (Some bytes) (Some rest) all end known =
             (r.header.now ++ rest, refl, ap (records_as o.query.reading) (ap (λ (t : List ℕ). r.header.now ++ t) end ∙ append-nil r.header.now) ∙ are.one ∙ ap (good_records o.query) (sym all))
+
+-- what a source has left is known if it was before
+pub known_of : (old new : Option (List ℕ)) (more : List ℕ) → Consumes old new more → IfSome old (λ bytes. (rest : List ℕ) × (new ≡ Some rest))
+known_of None new more took = tt
+known_of (Some xs) None more took = absurd took
+known_of (Some xs) (Some ys) more took = (ys, refl)

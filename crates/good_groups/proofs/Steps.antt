@@ -137,7 +137,7 @@ module _ (r : Rules) (s : Sifter) (some : 0 < length s.pending) (ends : ends_her
       let old = prepend_known s.pending left in
       let w = line_stretch r s.line.items in
       let begins = subst (λ (t : List ℕ). IfSome (prepend_known t left) (λ back. (back ≡ []) ⊎ (BeginsLine back × IsCut s.line.items))) (sym (first_rest s.pending some))
-          (next_begins r s s c (drop 1 s.pending) s.line.items left is_end.0 (begun_cut s.line.items s.place is.begun is_end.1)) in
+      (next_begins r s s c (drop 1 s.pending) s.line.items left is_end.0 (begun_cut s.line.items s.place is.begun is_end.1)) in
       record {
         part = is_part o.query.reading (o.header ∷ is.rows) s.tally.feeds w o.from old is.read begins;
         begins = begins_part o.query.reading (o.header ∷ is.rows) s.tally.feeds w o.from old is.read begins;

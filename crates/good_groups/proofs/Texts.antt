@@ -105,9 +105,11 @@ module _ (reading : Reading) (records : Table) (feeds : ℕ) (w : Stretch) where
   begins_part None old read next = tt
   begins_part (Some bytes) None read next = absurd read
   begins_part (Some bytes) (Some back) read next = elim next [
-    | inl none ↦
-        ([], read.parts ∙ ap (λ (t : List ℕ). records ++ records_as reading (w.lines ++ t)) none ∙ ap (λ (t : List ℕ). records ++ records_as reading t) (append-nil w.lines)
-        ∙ sym (append-nil (records ++ records_as reading w.lines)))
+    | inl none ↦ (
+      [],
+      read.parts ∙ ap (λ (t : List ℕ). records ++ records_as reading (w.lines ++ t)) none ∙ ap (λ (t : List ℕ). records ++ records_as reading t) (append-nil w.lines)
+          ∙ sym (append-nil (records ++ records_as reading w.lines)),
+    )
     | inr more ↦
         (records_as reading back, read.parts ∙ ap (λ (t : Table). records ++ t) (as_add_up reading w.lines back (record { whole = more.1; line = more.0 })) ∙ sym (append_assoc records (records_as reading w.lines) (records_as reading back)))
   ]

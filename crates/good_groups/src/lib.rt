@@ -17,4 +17,3 @@ mod tally;
 
 pub use origin::Origin;
 pub use reading::{GoodGroups, LeftOut, read_good};
-

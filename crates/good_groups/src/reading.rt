@@ -32,7 +32,8 @@ use std::marker::{Brand, PhantomData};
 use std::sync::Wait;
 use std::thread::Threads;
 use stream_groups::{
-    First, Progress, ReadGroups, RefusedRow, Separated, Stop, Taken, bind, first_window, read_groups,
+    First, Progress, ReadGroups, RefusedRow, Separated, Stop, Taken, bind, first_window,
+    read_groups,
 };
 
 /// How many rows were left out, at least one, and the first of them.
@@ -73,9 +74,7 @@ pub fn read_good<R: Threads + Wait + Sync, S: Source, P: Progress>(
     ensures no_write { IfErr result.0 (λ why. (why ≡ stop.WriteFault) → ⊥) }
 {
     source.separate(plan.reading().separator);
-    read_text::<R, Separated<S>, P, Brand>(
-        rt, alloc, plan, workers, most, source, size, progress,
-    )
+    read_text::<R, Separated<S>, P, Brand>(rt, alloc, plan, workers, most, source, size, progress)
 }
 
 /// The same of a text in which the comma and the plan's separator are exchanged.
@@ -97,20 +96,23 @@ fn read_text<R: Threads + Wait + Sync, S: Source, P: Progress, I: Origin>(
     ensures read_fault { IfErr result.0 (λ why. why ≡ stop.ReadFault → Rose (S.faults source) (S.faults result.1)) }
     ensures no_write { IfErr result.0 (λ why. (why ≡ stop.WriteFault) → ⊥) }
 {
-    let begun = match read_front(rt, alloc, plan, &mut source, size) {
-        Ok(begun) => begun,
+    let front = match read_front(rt, alloc, plan, &mut source, size) {
+        Ok(front) => front,
         Err(why) => return (Err(why), source),
     };
+    let Front {
+        first,
+        bound,
+        sifting,
+    } = front;
     let rules = Rules {
         plan,
-        bound: &begun.bound,
-        header: begun.first.window.header(),
-        width: begun.first.header.width(0),
+        bound: &bound,
+        header: first.window.header(),
+        width: first.header.width(0),
         most,
     };
-    read_rows::<R, S, P, I>(
-        rt, alloc, rules, begun.sifting, workers, source, size, progress,
-    )
+    read_rows::<R, S, P, I>(rt, alloc, rules, sifting, workers, source, size, progress)
 }
 
 /// The first window of a source, the plan over its header, and what is sifted after it.
@@ -180,9 +182,13 @@ fn read_rows<R: Threads + Wait + Sync, S: Source, P: Progress, I: Origin>(
         origin: PhantomData,
     };
     let mut taken = Taken::Bytes(0);
-    let read = read_groups(rt, alloc, plan, workers, &mut sieve, size, progress, &mut taken);
+    let read = read_groups(
+        rt, alloc, plan, workers, &mut sieve, size, progress, &mut taken,
+    );
     let Sieve {
-        source, sifting, ..
+        source,
+        sifting,
+        ..
     } = sieve;
     (answer_of(alloc, read, sifting), source)
 }
@@ -243,13 +249,7 @@ fn text_after(alloc: Global, first: &First) -> Result<Vec<u8>, AllocError>
 }
 
 /// A text of which nothing was counted yet, after so many line feeds.
-fn sifting_of(
-    line: Vec<u8>,
-    pending: Piece,
-    ahead: Bytes,
-    feeds: u64,
-    is_done: bool,
-) -> Sifting
+fn sifting_of(line: Vec<u8>, pending: Piece, ahead: Bytes, feeds: u64, is_done: bool) -> Sifting
     ensures { result ≡ record { sifter = record { line = line; place = place.Opens; pending = pending; ahead = ahead; tally = record { rows = 0; feeds = feeds; count = 0; first = None } }; is_done = is_done; halt = None; lacks = 0 } }
 {
     Sifting {

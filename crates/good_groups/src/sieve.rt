@@ -20,9 +20,9 @@ use crate::reading::LeftOut;
 use crate::sifter::{Halt, MOST_ROWS, Rules, Sifter};
 use crate::tally::Tally;
 use par_io::{Failed, Source};
+use row_windows::WindowAnswer;
 use std::alloc::Global;
 use std::marker::{Model, PhantomData};
-use row_windows::WindowAnswer;
 use stream_groups::{Stop, stop_of_window};
 
 /// The most line feeds of a source: 2^60. A source with more of them is answered as out of memory.
@@ -137,7 +137,10 @@ impl Sifting {
         let Sifting { sifter, halt, .. } = self;
         let Sifter { line, tally, .. } = sifter;
         let Tally {
-            rows, feeds, first, ..
+            rows,
+            feeds,
+            first,
+            ..
         } = tally;
         match halt {
             None => Stop::ReadFault,
@@ -162,7 +165,9 @@ impl Sifting {
         ensures why { IfErr result (λ why. why ≡ stop.Memory) }
     {
         let Sifting {
-            sifter, is_done, ..
+            sifter,
+            is_done,
+            ..
         } = self;
         if !is_done {
             return Err(Stop::Memory);
@@ -237,6 +242,7 @@ impl<'b, S: Source, I: Origin> Source for Sieve<'b, S, I> {
 
     /// What is left of the source below.
     fn read(&mut self, buf: &mut [u8]) -> Result<usize, Failed> {
-        self.sifting.give(self.alloc, &self.rules, &mut self.source, buf)
+        self.sifting
+            .give(self.alloc, &self.rules, &mut self.source, buf)
     }
 }
