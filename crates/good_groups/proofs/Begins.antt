@@ -1,8 +1,8 @@
 -- What there is after the header.
-use Rattle.std.proofs.Common.{◌≡◌, ◌≢◌, ◌⊎◌, inl, inr, ◌<◌, ◌≤◌, ◌+◌, ◌++◌, ◌^◌, ◌∙◌, ℕ, Bool, true, false, List, [], ◌∷◌, Option, None, Some, IfSome, ap, append-nil, append_assoc, arith, length, refl, subst, sym}
-use Rattle.std.specs.Prelude.{if◌then◌else◌, option_map}
-use Rattle.std.proofs.lemmas.Bool.{cases_Bool}
-use Rattle.std.specs.Io.KnownBytes.{IsAtEnd, prepend_known}
+use Rattle.std.proofs.Common.{◌≡◌, ◌≢◌, ◌⊎◌, inl, inr, ◌<◌, ◌≤◌, ◌+◌, ◌++◌, ◌^◌, ◌∙◌, ℕ, Bool, true, false, List, [], ◌∷◌, Option, None, Some, IfSome, ap, append-nil, append_assoc, arith, get_or, length, length-append, refl, subst, sym}
+use Rattle.std.specs.Prelude.{◌==◌, if◌then◌else◌, option_map, slice_index}
+use Rattle.std.proofs.lemmas.Bool.{cases_Bool, cases_lt, eqb-true}
+use Rattle.std.specs.Io.KnownBytes.{Consumes, IsAtEnd, prepend_known}
 use Rattle.csv_rows.specs.Cuts.{IsCut}
 use Rattle.csv_rows.specs.Places.{place_after}
 use Rattle.csv_rows.specs.Readings.{records_as}
@@ -12,18 +12,28 @@ use Rattle.csv_rows.specs.declared.place.Place.{Place}
 use Rattle.csv_rows.specs.declared.place.Place.TheVariants as place
 use Rattle.par_model.specs.Named.{bound_plan}
 use Rattle.par_model.specs.Plan.{Plan}
+use Rattle.par_model.specs.Refuse.{refused_rows}
 use Rattle.row_blocks.specs.Blocks.{Table}
 use Rattle.row_windows.specs.Seams.{BeginsLine, is_line_end}
 use Rattle.row_windows.specs.Stretch.{Stretch}
+use Rattle.row_windows.proofs.Seams.{not-feed}
+use Rattle.split_run.specs.Pieces.{piece_records}
+use Rattle.text_lines.specs.Feeds.{count_feeds}
+use Rattle.text_lines.proofs.Counts.{count_none}
 use Rattle.good_rows.specs.Good.{good_rows, has_good}
 use Rattle.good_rows.specs.Lines.{IsBegun, ends_here, left_of, line_left}
-use Rattle.good_rows.proofs.Left.{begins_one, rows_left}
-use Rattle.stream_groups.specs.Reading.{ArePart, AreRead, HasPart, HasRead}
-use Rattle.stream_groups.proofs.ReadAs.{as_add_up}
-use Rattle.good_groups.specs.Counted.{AreRules}
+use Rattle.good_rows.proofs.Left.{begins_one, begun_one, rows_left}
+use Rattle.stream_groups.specs.Begins.{BeginsOrNone}
+use Rattle.stream_groups.specs.declared.filling.First.{First}
+use Rattle.stream_groups.specs.Reading.{ArePart, AreRead, HasAll, HasPart, HasRead}
+use Rattle.stream_groups.proofs.ReadAs.{as_add_up, none_as}
+use Rattle.good_groups.specs.Begun.{IsBegunOver, IsFirstOf}
+use Rattle.good_groups.specs.Counted.{AreRules, HasCounted}
 use Rattle.good_groups.specs.Good.{good_records}
 use Rattle.good_groups.specs.Opened.{Opened}
-use Rattle.good_groups.specs.Sifting.{keeps}
+use Rattle.good_groups.specs.Sifting.{IsHalted, keeps, sifter_left, sifting_left}
+use Rattle.good_groups.specs.declared.sieve.Sifting.{Sifting}
+use Rattle.good_groups.proofs.Steps.{same_left}
 use Rattle.good_groups.specs.declared.sifter.Rules.{Rules}
 
 -- what is left begins as the line does
@@ -92,3 +102,134 @@ module _ (o : Opened) (r : Rules) (are : AreRules o r) where
   good_left (Some bytes) None feeds c more p b read = absurd read
   good_left (Some bytes) (Some left) feeds c more p b read =
       (r.header.now ++ left_of (keeps r) p (c ∷ []) (more ++ left), refl, sifted c (more ++ left) p b ∙ ap (good_records o.query) (sym read.parts))
+
+-- ---- the first window
+
+pub nothing : (xs : List ℕ) → length xs ≤ 0 → xs ≡ []
+nothing [] few = refl
+nothing (x ∷ xs) few = absurd (omega (arith, few))
+
+-- the first byte, whatever stands for none
+pub first_default : (xs : List ℕ) (d : ℕ) → 0 < length xs → get_or xs 0 d ≡ slice_index xs 0
+first_default [] d some = absurd (omega (arith, some))
+first_default (x ∷ xs) d some = refl
+
+line_place : (c : ℕ) → is_line_end c ≡ true → place_after place.Opens (c ∷ []) ≡ place.Opens
+unfolding place_after
+line_place c line = elim (cases_Bool (c == 10)) [
+  | inl e ↦ let is : c ≡ 10 = eqb-true c 10 e in rw is refl
+  | inr e ↦ let is : c ≡ 13 = not-feed c e line in rw is refl
+]
+
+begins_is : (lines rest : List ℕ) (c : ℕ) (more : List ℕ) (last : Bool) → lines ++ rest ≡ c ∷ more → BeginsOrNone lines → (last ≡ true → rest ≡ []) → (last ≡ false → BeginsLine rest) → is_line_end c ≡ true
+begins_is [] rest c more true text begins none next = let bad : [] ≡ c ∷ more = sym (none refl) ∙ text in cc bad
+begins_is [] rest c more false text begins none next = (subst BeginsLine text (next refl)).is
+begins_is (d ∷ lines) rest c more last text (inl e) none next = cc e
+begins_is (d ∷ lines) rest c more last text (inr b) none next = let same : c ≡ d = cc text in ap is_line_end same ∙ b.is
+
+refused_nil : (plan : Plan) (width : ℕ) → refused_rows plan width [] ≡ []
+unfolding refused_rows
+refused_nil plan width = refl
+
+-- nothing was counted
+count_nothing : (o : Opened) (bound : Plan) (feeds : ℕ) → HasCounted o bound (record { rows = 0; feeds = feeds; count = 0; first = None }) []
+count_nothing o bound feeds = record {
+  number = refl;
+  few = omega arith;
+  count = sym (ap length (refused_nil bound (length o.header)));
+  most = omega arith;
+  first = refused_nil bound (length o.header);
+}
+
+module _ (o : Opened) (left : Option (List ℕ)) (r : Rules) (are : AreRules o r) (f : First) (is : IsFirstOf o left r f) (none : f.is_last ≡ true → f.window.rest ≡ []) where
+  first_read : (c : ℕ) (more : List ℕ) → f.window.lines ++ f.window.rest ≡ c ∷ more → is_line_end c ≡ true → HasRead o.query.reading o.from (prepend_known more left) (o.header ∷ []) f.feeds (c ∷ [])
+  first_read c more text line = elim (cases_lt 0 (length f.window.lines)) [
+    | inl some ↦
+        subst (λ h. HasRead o.query.reading o.from (prepend_known more left) (h ∷ []) f.feeds (c ∷ [])) is.one
+        (part_begins o.query.reading o.from left (record_at f.header 0 ∷ []) f.feeds f.window c more text line (is.part some))
+    | inr few ↦
+        let empty = nothing f.window.lines few in
+        let rest : f.window.rest ≡ c ∷ more = ap (λ (t : List ℕ). t ++ f.window.rest) (sym empty) ∙ text in
+        elim (cases_Bool f.is_last) [
+          | inl last ↦ let bad : [] ≡ c ∷ more = sym (none last) ∙ rest in cc bad
+          | inr going ↦
+              let records : piece_records f.window ≡ o.header ∷ [] =
+              is.header.records ∙ ap (λ (l : Table). record_at f.header 0 ∷ l) (is.lined.rows ∙ ap (records_as o.query.reading) empty ∙ none_as o.query.reading) ∙ ap (λ (h : List (List ℕ)). h ∷ []) is.one in
+              let feeds : f.feeds + count_feeds f.window.lines ≡ f.feeds = omega (arith, ap count_feeds empty, count_none) in
+              rest_begins o.query.reading o.from left (o.header ∷ []) f.feeds c more line
+              (subst (λ (t : List ℕ). HasRead o.query.reading o.from left (o.header ∷ []) f.feeds t) rest
+              (subst (λ (n : ℕ). HasRead o.query.reading o.from left (o.header ∷ []) n f.window.rest) feeds
+              (subst (λ (l : Table). HasRead o.query.reading o.from left l (f.feeds + count_feeds f.window.lines) f.window.rest) records (is.reaches.more going))))
+        ]
+  ]
+
+  module _ (s : Sifting) (ahead : s.sifter.ahead ≡ r.header.now) (tally : s.sifter.tally ≡ record { rows = 0; feeds = f.feeds; count = 0; first = None }) (halt : s.halt ≡ None) (fresh : s.lacks ≡ 0) where
+    halted : IsHalted s.halt s
+    halted = subst (λ h. IsHalted h s) (sym halt) fresh
+
+    -- a line begins
+    pub line_begun : (c : ℕ) (more : List ℕ) → f.window.lines ++ f.window.rest ≡ c ∷ more → s.is_done ≡ false → s.sifter.line.items ≡ c ∷ [] → s.sifter.place ≡ place.Opens → s.sifter.pending ≡ more → IsBegunOver o left r s
+    line_begun c more text going line at pending =
+        let ends = begins_is f.window.lines f.window.rest c more f.is_last text is.lined.begins none is.header.next in
+        let read = first_read c more text ends in
+        let begun : IsBegun (c ∷ []) place.Opens = subst (IsBegun (c ∷ [])) (line_place c ends) (begun_one place.Opens c ends (λ e. cc e)) in
+        let left_is : sifting_left r left s ≡ prepend_known r.header.now (option_map (left_of (keeps r) place.Opens (c ∷ [])) (prepend_known more left)) =
+        ap (λ (d : Bool). if d then prepend_known s.sifter.ahead left else sifter_left r left s.sifter) going
+        ∙ same_left (keeps r) left s.sifter.ahead r.header.now s.sifter.pending more s.sifter.line.items (c ∷ []) s.sifter.place place.Opens (sym ahead) (sym pending) (sym line) (sym at) in
+        record {
+          is = record {
+            going = λ _. record {
+              rows = [];
+              counted = subst (λ t. HasCounted o r.bound.now t []) (sym tally) (count_nothing o r.bound.now f.feeds);
+              begun = subst (λ (t : List ℕ). IsBegun t s.sifter.place) (sym line) (subst (IsBegun (c ∷ [])) (sym at) begun);
+              few = omega (arith, is.few, ap (λ t. t.feeds) tally);
+              read =
+                  subst (λ t. HasRead o.query.reading o.from (prepend_known s.sifter.pending left) (o.header ∷ []) t.feeds s.sifter.line.items) (sym tally)
+                  (subst (λ (t : List ℕ). HasRead o.query.reading o.from (prepend_known s.sifter.pending left) (o.header ∷ []) f.feeds t) (sym line)
+                  (subst (λ (t : List ℕ). HasRead o.query.reading o.from (prepend_known t left) (o.header ∷ []) f.feeds (c ∷ [])) (sym pending) read));
+            };
+            done = λ e. let bad : true ≡ false = sym e ∙ going in cc bad;
+            halted = halted;
+          };
+          fresh = fresh;
+          good = subst (λ x. IfSome o.from (λ bytes. (text : List ℕ) × (x ≡ Some text) × (records_as o.query.reading text ≡ good_records o.query (records_as o.query.reading bytes)))) (sym left_is)
+              (good_left o r are o.from left f.feeds c more place.Opens begun read);
+        }
+
+    -- or there is none
+    pub none_begun : f.window.lines ++ f.window.rest ≡ [] → s.is_done ≡ true → IsBegunOver o left r s
+    none_begun text done =
+        let empty : f.window.lines ≡ [] = nothing f.window.lines (omega (arith, ap length text, length-append f.window.lines f.window.rest)) in
+        let rest : f.window.rest ≡ [] = nothing f.window.rest (omega (arith, ap length text, length-append f.window.lines f.window.rest)) in
+        let last : f.is_last ≡ true = elim (cases_Bool f.is_last) [
+          | inl e ↦ e
+          | inr e ↦ absurd (omega (arith, (is.header.next e).some, ap length rest))
+        ] in
+        let records : piece_records f.window ≡ o.header ∷ [] =
+        is.header.records ∙ ap (λ (l : Table). record_at f.header 0 ∷ l) (is.lined.rows ∙ ap (records_as o.query.reading) empty ∙ none_as o.query.reading) ∙ ap (λ (h : List (List ℕ)). h ∷ []) is.one in
+        let all = subst (HasAll o.query.reading o.from) records (is.reaches.all last) in
+        let end = is.end last in
+        let left_is : sifting_left r left s ≡ prepend_known r.header.now left =
+        ap (λ (d : Bool). if d then prepend_known s.sifter.ahead left else sifter_left r left s.sifter) done ∙ ap (λ (t : List ℕ). prepend_known t left) ahead in
+        record {
+          is = record {
+            going = λ e. let bad : true ≡ false = sym done ∙ e in cc bad;
+            done = λ _. record { rows = []; counted = subst (λ t. HasCounted o r.bound.now t []) (sym tally) (count_nothing o r.bound.now f.feeds); all = all; end = end };
+            halted = halted;
+          };
+          fresh = fresh;
+          good = subst (λ x. IfSome o.from (λ bytes. (text : List ℕ) × (x ≡ Some text) × (records_as o.query.reading text ≡ good_records o.query (records_as o.query.reading bytes)))) (sym left_is) (good_none o.from left all end is.known);
+        }
+      where
+        good_none : (from left : Option (List ℕ)) → HasAll o.query.reading from (o.header ∷ []) → IsAtEnd left → IfSome from (λ bytes. (rest : List ℕ) × (left ≡ Some rest))
+            → IfSome from (λ bytes. (text : List ℕ) × (prepend_known r.header.now left ≡ Some text) × (records_as o.query.reading text ≡ good_records o.query (records_as o.query.reading bytes)))
+        good_none None left all end known = tt
+        good_none (Some bytes) None all end known = let bad = known.1 in cc bad
+        good_none (Some bytes) (Some rest) all end known =
+            (r.header.now ++ rest, refl, ap (records_as o.query.reading) (ap (λ (t : List ℕ). r.header.now ++ t) end ∙ append-nil r.header.now) ∙ are.one ∙ ap (good_records o.query) (sym all))
+
+-- what a source has left is known if it was before
+pub known_of : (old new : Option (List ℕ)) (more : List ℕ) → Consumes old new more → IfSome old (λ bytes. (rest : List ℕ) × (new ≡ Some rest))
+known_of None new more took = tt
+known_of (Some xs) None more took = absurd took
+known_of (Some xs) (Some ys) more took = (ys, refl)

@@ -35,10 +35,10 @@ pub sifts_then : (r : Rules) (a b c : Sifter) → Sifts r a b → Sifts r b c �
 sifts_then r a b c f g = record { left = λ left. f.left left ∙ g.left left; counts = λ o left are is. g.counts o left are (f.counts o left are is) }
 
 -- what is left, by its parts
-abbrev left_by : (List ℕ → Bool) → Option (List ℕ) → List ℕ → List ℕ → List ℕ → Place → Option (List ℕ)
+abbrev pub left_by : (List ℕ → Bool) → Option (List ℕ) → List ℕ → List ℕ → List ℕ → Place → Option (List ℕ)
 left_by k left ahead pending line p = prepend_known ahead (option_map (left_of k p line) (prepend_known pending left))
 
-same_left : (k : List ℕ → Bool) (left : Option (List ℕ)) (ahead ahead' pending pending' line line' : List ℕ) (p p' : Place) → ahead' ≡ ahead → pending' ≡ pending → line' ≡ line → p' ≡ p → left_by k left ahead pending line p ≡ left_by k left ahead' pending' line' p'
+pub same_left : (k : List ℕ → Bool) (left : Option (List ℕ)) (ahead ahead' pending pending' line line' : List ℕ) (p p' : Place) → ahead' ≡ ahead → pending' ≡ pending → line' ≡ line → p' ≡ p → left_by k left ahead pending line p ≡ left_by k left ahead' pending' line' p'
 same_left k left ahead ahead' pending pending' line line' p p' a b c d = rw (a, b, c, d) refl
 
 module _ (r : Rules) (s n : Sifter) where
@@ -125,7 +125,7 @@ ends_first p pending left at is some ends =
     let here : at + 0 ≡ at = omega arith in
     (many, ap (ends_here p) (ap (λ (t : List ℕ). slice_index t 0) is ∙ get_or-drop at pending 0 0 ∙ ap (slice_index pending) here) ∙ ends (omega (arith, many, ap length is, length-drop at pending)))
 
-first_rest : (xs : List ℕ) → 0 < length xs → xs ≡ slice_index xs 0 ∷ drop 1 xs
+pub first_rest : (xs : List ℕ) → 0 < length xs → xs ≡ slice_index xs 0 ∷ drop 1 xs
 first_rest [] some = absurd (omega (arith, some))
 first_rest (x ∷ xs) some = refl
 

@@ -39,8 +39,8 @@ pub(crate) struct Sifting {
 
 /// A source after its header, and what was read of it.
 #[derive(Drop)]
-pub(crate) struct Sieve<'a, 'b, S: Source, I: Origin> {
-    pub(crate) source: &'a mut S,
+pub(crate) struct Sieve<'b, S: Source, I: Origin> {
+    pub(crate) source: S,
     pub(crate) alloc: Global,
     pub(crate) rules: Rules<'b>,
     pub(crate) sifting: Sifting,
@@ -223,25 +223,26 @@ fn sift(sifter: &mut Sifter, alloc: Global, rules: &Rules<'_>) -> Result<(), Hal
     Ok(())
 }
 
-impl<'a, 'b, S: Source, I: Origin> Model for Sieve<'a, 'b, S, I> {
+impl<'b, S: Source, I: Origin> Model for Sieve<'b, S, I> {
     ghost use Rattle.std.specs.Prelude.{◌+◌};
     ghost use Rattle.good_groups.specs.Sieve.{IsSieve, Seen};
     ghost use Rattle.good_groups.specs.Sifting.{sifting_left};
 
     ghost Value = { Seen };
 
-    ghost view = { λ s. record { left = sifting_left s.rules (S.left s.source.now) s.sifting; faults = S.faults s.source.now + s.sifting.lacks } };
+    ghost view = { λ s. record { left = sifting_left s.rules (S.left s.source) s.sifting; faults = S.faults s.source + s.sifting.lacks } };
 
-    ghost invariant = { λ s. IsSieve I.start s.source.ghost_name (S.left s.source.now) s.rules s.sifting };
+    ghost invariant = { λ s. IsSieve I.start (S.left s.source) s.rules s.sifting };
 }
 
-impl<'a, 'b, S: Source, I: Origin> Source for Sieve<'a, 'b, S, I> {
+impl<'b, S: Source, I: Origin> Source for Sieve<'b, S, I> {
     ghost left = { λ s. s.left };
 
     ghost faults = { λ s. s.faults };
 
     /// What is left of the source below.
     fn read(&mut self, buf: &mut [u8]) -> Result<usize, Failed> {
-        self.sifting.give(self.alloc, &self.rules, self.source, buf)
+        self.sifting
+            .give(self.alloc, &self.rules, &mut self.source, buf)
     }
 }
