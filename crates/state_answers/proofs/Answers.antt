@@ -2,8 +2,6 @@
 use Rattle.std.proofs.Common.{◌≡◌, ◌∙◌, ℕ, List, [], ◌∷◌, All, ap, get_or, length, map, subst, sym}
 use Rattle.csv_rows.specs.Readings.{exchanged, records_as, records_in}
 use Rattle.csv_rows.specs.Records.{record_at}
-use Rattle.csv_rows.specs.declared.cleaning.Reading.{Reading}
-use Rattle.par_model.specs.Named.{NamedPlan}
 use Rattle.plan_spec.specs.Query.{Query}
 use Rattle.row_blocks.specs.Blocks.{Table}
 use Rattle.state_head.specs.Head.{Subject}

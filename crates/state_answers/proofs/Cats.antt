@@ -1,6 +1,5 @@
 -- The texts of ranges that touch, each of other files of the same sources.
 use Rattle.std.proofs.Common.{◌≡◌, ◌∙◌, ◌∷◌, ℕ, List, [], None, Option, ap, cond, length, refl, subst, sym}
-use Rattle.std.specs.FinMap as map
 use Rattle.std.specs.List.{AllZip, concat}
 use Rattle.par_model.specs.Key.{encoded}
 use Rattle.par_model.specs.Named.{NamedPlan, bound_plan}
@@ -18,7 +17,7 @@ use Rattle.state_query.specs.Ranges.{IsEndOf}
 use Rattle.state_order.specs.Ranges.{is_within}
 use Rattle.state_range.specs.Ranges.{IsTextWithin, RangesAnswer, ranges_from}
 use Rattle.state_answers.specs.Sent.{FinalizeAnswers, IsJob, Job, SentGroupsAreAll, work_by}
-use Rattle.state_answers.specs.Touching.{AreTouching, Ends, IsRangeOfSent, RangesAgree, RangesAreTable, columns_by, touching}
+use Rattle.state_answers.specs.Touching.{Ends, IsRangeOfSent, RangesAgree, RangesAreTable, columns_by, touching}
 use Rattle.state_answers.proofs.Sent.{bound_same, query_same}
 
 -- a word names one key

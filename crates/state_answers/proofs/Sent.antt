@@ -1,5 +1,5 @@
 -- However bytes of files are read, they are the files that were sent.
-use Rattle.std.proofs.Common.{◌≡◌, ◌<◌, ◌∙◌, ℕ, Bool, List, [], ◌∷◌, All, ap, arith, get_or, length, subst, sym, ◌++◌, ◌≤◌, ◌^◌, append-nil}
+use Rattle.std.proofs.Common.{◌≡◌, ◌<◌, ◌∙◌, ℕ, Bool, List, [], ◌∷◌, All, ap, arith, get_or, length, subst, sym, ◌++◌, ◌^◌, append-nil}
 use Rattle.std.specs.List.{flat_map}
 use Rattle.std.proofs.lemmas.Grind.{flat_map-append}
 use Rattle.std.proofs.lemmas.List.Elements.{All-append, All-cons, All-head, All-nil}
@@ -24,7 +24,7 @@ use Rattle.state_law.specs.Truth.{IsFirstOfAll, IsTrueOf}
 use Rattle.state_load.specs.Loading.{AreParts, IsPart, files_bytes, stretches_of}
 use Rattle.state_once.proofs.Files.{file_some, files_are_once, preface_once}
 use Rattle.state_plan.specs.FilePlans.{AskFor, header_of}
-use Rattle.state_query.specs.Inputs.{Input, IsInput, IsOneFile, groups_in}
+use Rattle.state_query.specs.Inputs.{Input, IsInput, IsOneFile, bound_of, groups_in}
 use Rattle.state_whole.specs.Adding.{IsShapeOf}
 use Rattle.state_whole.specs.Files.{IsStateFile, StateFile, file_bytes}
 use Rattle.state_whole.specs.declared.adding.Shape.{Shape}
@@ -84,7 +84,7 @@ module _ (j : Job) (bytes : List ℕ) (i : Input) (job : IsJob j) (sent : AreSen
       subst (All (IsMade (work_of i j.texts))) (sym files_same) by_work
 
   pub is_of : IsOf j.texts i
-  is_of = record { many = job.many ∙ ap (λ (s : Subject). s.sources) (sym subject_same); few = job.few; made = made_of }
+  is_of = record { many = job.many ∙ ap (λ (s : Subject). s.sources) (sym subject_same); few = subst (λ (w : Work). length (all_rows w) < 2 ^ 64) work_same job.few; made = made_of }
 
 pub sent_are_read : SentAreRead
 sent_are_read j bytes i job sent input = (subject_same j bytes i job sent input, query_same j bytes i job sent input, is_of j bytes i job sent input)
@@ -92,7 +92,8 @@ sent_are_read j bytes i job sent input = (subject_same j bytes i job sent input,
 pub sent_groups_are_all : GroupsAreAll → SentGroupsAreAll
 sent_groups_are_all groups j bytes i cover job sent input whole_is counted =
     let are = groups bytes i j.texts cover input (is_of j bytes i job sent input) whole_is counted in
-    subst (λ (p : Plan). AreGroups p (all_rows (work_by j)) (groups_in i)) (bound_same j bytes i job sent input) are
+    let by_work = subst (λ (w : Work). AreGroups (bound_of i) (all_rows w) (groups_in i)) (sym (work_same j bytes i job sent input)) are in
+    subst (λ (p : Plan). AreGroups p (all_rows (work_by j)) (groups_in i)) (bound_same j bytes i job sent input) by_work
 
 pub finalize_answers : TableAnswers → FinalizeAnswers
 finalize_answers answers j bytes text job sent table =

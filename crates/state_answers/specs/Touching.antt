@@ -1,6 +1,6 @@
 -- A table in ranges that touch, each made by another call of `finalize`, maybe on another machine, of whatever files came about of the
 -- sources.
-use Rattle.std.specs.Prelude.{◌≡◌, ◌++◌, ◌∷◌, ℕ, List, [], length}
+use Rattle.std.specs.Prelude.{◌≡◌, ◌∷◌, ℕ, List, [], length}
 use Rattle.std.specs.List.{AllZip, concat}
 use Rattle.par_model.specs.Named.{bound_plan}
 use Rattle.par_model.specs.Outcome.{IsAnswer}
