@@ -1,7 +1,7 @@
 //! Partial states over a source and a sink: several files as one file, and the table that the files of all parts come to.
 //!
-//! The source is read to its end before anything is written, so on each fault nothing is written but by a failed write. It may have any
-//! number of files, one after another.
+//! The source may have any number of files, one after another. Each is added as it comes and dropped before the next one is read; if one is
+//! not taken, nothing is written.
 
 #![tactic(auto)]
 
@@ -22,7 +22,6 @@ mod range;
 mod stop;
 
 use answer_text::{READ_FAULT, WRITE_FAULT, write_each};
-use input::read_input;
 use outcome::{one_file, table_pieces};
 use par_io::{Sink, Source, write_whole};
 pub use range::RangeWords;
@@ -32,7 +31,7 @@ use std::thread::Threads;
 pub use stop::{BAD_STATES, MISSING, Stop, WRITTEN};
 
 /// Reads files of one query and writes them as one file, or a line to `err` that says why there is none; the exit status. Time is linear
-/// in the input but for the order of its groups; memory is the input, its groups, and the file.
+/// in the input but for the order of its groups; memory is that of all groups, of the largest file of the input, and of the file.
 pub fn combine_states<S: Source, O: Sink, E: Sink>(
     alloc: Global,
     source: &mut S,
@@ -60,8 +59,8 @@ pub fn combine_states<S: Source, O: Sink, E: Sink>(
 }
 
 /// Reads the files of all parts and writes the table that they come to, or a line to `err` that says why there is none; the exit status.
-/// The lines are made by at most this many threads. Time is linear in the input but for the order of its groups; memory is the input,
-/// its groups, and the text.
+/// The lines are made by at most this many threads. Time is linear in the input but for the order of its groups; memory is that of
+/// all groups, of the largest file of the input, and of the text.
 pub fn finalize_states<R: Threads + Sync, S: Source, O: Sink, E: Sink>(
     rt: &R,
     alloc: Global,
@@ -92,7 +91,8 @@ pub fn finalize_states<R: Threads + Sync, S: Source, O: Sink, E: Sink>(
 
 /// Reads the files of all parts and writes the lines of one range of the table that they come to, after the header if the range has no low
 /// end; or a line to `err` that says why there are none; the exit status. The texts of ranges one after another are the table. Time is
-/// linear in the input but for the order of its groups; memory is the input, its groups, and the groups and the text of the range.
+/// linear in the input but for the order of its groups; memory is that of the groups and the text of the range, and of the largest file of
+/// the input.
 pub fn finalize_range<S: Source, O: Sink, E: Sink>(
     alloc: Global,
     words: RangeWords<'_>,
@@ -137,8 +137,7 @@ fn write_range<S: Source, O: Sink>(
     ensures read_fault { IfErr result (λ why. why ≡ stop.ReadFault → Rose (S.faults source.old) (S.faults source.new)) }
     ensures write_fault { IfErr result (λ why. why ≡ stop.WriteFault → Rose (O.faults out.old) (O.faults out.new)) }
 {
-    let bytes = read_input(alloc, source)?;
-    let pieces = range_pieces(alloc, words, bytes.as_slice())?;
+    let pieces = range_pieces(alloc, words, source)?;
     write_each(out, &pieces)?;
     Ok(())
 }
@@ -153,8 +152,7 @@ fn combine<S: Source, O: Sink>(alloc: Global, source: &mut S, out: &mut O) -> Re
     ensures read_fault { IfErr result (λ why. why ≡ stop.ReadFault → Rose (S.faults source.old) (S.faults source.new)) }
     ensures write_fault { IfErr result (λ why. why ≡ stop.WriteFault → Rose (O.faults out.old) (O.faults out.new)) }
 {
-    let bytes = read_input(alloc, source)?;
-    let file = one_file(alloc, bytes.as_slice())?;
+    let file = one_file(alloc, source)?;
     write_whole(out, file.as_slice())?;
     Ok(())
 }
@@ -175,8 +173,7 @@ fn finalize<R: Threads + Sync, S: Source, O: Sink>(
     ensures read_fault { IfErr result (λ why. why ≡ stop.ReadFault → Rose (S.faults source.old) (S.faults source.new)) }
     ensures write_fault { IfErr result (λ why. why ≡ stop.WriteFault → Rose (O.faults out.old) (O.faults out.new)) }
 {
-    let bytes = read_input(alloc, source)?;
-    let pieces = table_pieces(rt, alloc, threads, bytes.as_slice())?;
+    let pieces = table_pieces(rt, alloc, threads, source)?;
     write_each(out, &pieces)?;
     Ok(())
 }
