@@ -38,7 +38,8 @@ STREAMS = [
         b"g\n1\n",
         b"",
         b'parstream: "--plan" is not understood: the options are --group, --agg, --where, --decimals, --separator,'
-        b" --null, --trim, --workers, --order, --limit, --output and --no-header; the input is the standard input, as in < FILE; see parstream --help\n",
+        b" --null, --trim, --workers, --order, --limit, --output, --skip-bad and --no-header; the input is the standard"
+        b" input, as in < FILE; see parstream --help\n",
         2,
     ),
     (
@@ -96,6 +97,15 @@ STREAMS = [
     ),
     (
         "--agg count",
+        b"SQLite format 3\0\x10\0\x01\x01",
+        b"",
+        b"parstream: the input is an SQLite database: sqlite3 -csv -header FILE 'SELECT * FROM t' | parstream ..\n",
+        2,
+    ),
+    ("--agg count", b"\n <!doctype html>\n<p>", b"", b"parstream: the input is HTML: save its table as CSV\n", 2),
+    ("--agg count", b"<g>,SQLite format 3\n1,2\n", b"count\n1\n", b"", 0),
+    (
+        "--agg count",
         "g,v\n".encode("utf-16"),
         b"",
         b"parstream: the input is UTF-16: iconv -f UTF-16 -t UTF-8 FILE | parstream ..\n",
@@ -115,6 +125,21 @@ STREAMS = [
         b"parstream: the input is UTF-16: iconv -f UTF-16BE -t UTF-8 FILE | parstream ..\n",
         2,
     ),
+    (
+        "--group g --agg sum:v --skip-bad 2",
+        b"g,v\na,1\nb,x\na,2\nc\n",
+        b"g,sum(v)\na,3\n",
+        b'parstream: rows left out: 2; the first: row 2 (line 3): column "v" is not an integer: "x"; see --null\n',
+        0,
+    ),
+    (
+        "--group g --agg sum:v --skip-bad=1",
+        b"g,v\na,1\nb,x\na,2\nc\n",
+        b"",
+        b'parstream: row 2 (line 3): column "v" is not an integer: "x"; see --null\n',
+        1,
+    ),
+    ("--agg sum:v --skip-bad 1", b"v\n1\n2\n", b"sum(v)\n3\n", b"", 0),
     ("--agg count --where PAR1=1", b"PAR1,PK\n1,2\n3,4\n", b"count\n1\n", b"", 0),
     ("--agg count --where g=a --where v!= --where=v<2", b"g,v\na,1\na,\nb,x\na,2\n", b"count\n1\n", b"", 0),
     ("--group g --agg sum:v --separator ;", b'g;v\na;1\n"b;c,d";2\n', b'g,sum(v)\na,1\n"b;c,d",2\n', b"", 0),
@@ -189,6 +214,28 @@ STREAMS = [
         2,
     ),
     ("--group g --agg count", b"g,v,v\na,1,2\n", b"g,count\na,1\n", b"", 0),
+    (
+        "partial --agg count --where =trim",
+        b"g\n1\n",
+        b"",
+        b"parstream: usage: parstream partial [--source I/N] [--bytes FROM[-TO] --size SIZE] [--group COLUMNS] --agg ITEMS .."
+        b" < PART > STATES\n",
+        2,
+    ),
+    (
+        "partial --agg count --no-header",
+        b"1\n",
+        b"",
+        b"parstream: partial takes no --no-header: the parts of a table need its header\n",
+        2,
+    ),
+    (
+        "partial --agg count --skip-bad=3",
+        b"g\n1\n",
+        b"",
+        b"parstream: partial takes no --skip-bad: a file of states leaves out no rows\n",
+        2,
+    ),
 ]
 
 # Where the standard input and output of a program come from that counts two records, and its line and status.
