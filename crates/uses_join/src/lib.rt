@@ -6,5 +6,8 @@
 mod hashed;
 #[cfg(test)]
 mod joins;
+mod kinds;
 #[cfg(test)]
 mod pairs;
+
+pub use kinds::orphans;

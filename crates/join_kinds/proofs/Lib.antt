@@ -1,0 +1,6 @@
+mod Anys
+mod Flags
+mod Merged
+mod Merging
+mod Numbers
+mod Tables

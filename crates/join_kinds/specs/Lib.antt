@@ -1,0 +1,4 @@
+pub mod Kinds
+pub mod Outer
+pub mod Partners
+pub mod Worked
