@@ -2,6 +2,8 @@
 
 #![tactic(auto)]
 
+mod first;
 mod loading;
 
+pub use first::add_first;
 pub use loading::{LoadCause, LoadFault, add_files};

@@ -101,7 +101,7 @@ fn add_next<'a>(
 }
 
 /// The front that some bytes begin with, if it says this plan, header, number of sources and range.
-fn read_alike<'a>(
+pub(crate) fn read_alike<'a>(
     alloc: Global,
     bytes: &'a [u8],
     whole: Whole<'_>,

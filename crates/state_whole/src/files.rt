@@ -82,8 +82,8 @@ impl<'k> Sum<'k> {
         Ok(body.rest)
     }
 
-    /// Adds the groups of the blocks of a file, which were read before, and its stretches.
-    fn add_groups<'a>(
+    /// Adds the groups of the blocks of a file, as [`read_groups`] found them, and its stretches. After an error a sum can only be dropped.
+    pub fn add_groups<'a>(
         &mut self,
         blocks: &'a [u8],
         front: &FrontRead<'a>,
@@ -136,8 +136,9 @@ impl<'k> Sum<'k> {
     }
 }
 
-/// The body of a file that begins with this front, if it has no groups beside a refused row.
-fn read_groups<'a>(
+/// The body of a file that begins with this front, if it has no groups beside a refused row. It looks at each byte of the file, and takes
+/// memory for the foot.
+pub fn read_groups<'a>(
     alloc: Global,
     front: &FrontRead<'a>,
     shape: &Shape<'_>,

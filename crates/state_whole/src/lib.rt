@@ -9,4 +9,4 @@ mod rows;
 
 pub use adding::{GroupFault, Kept, Shape};
 pub use alike::{OtherFile, check_range, check_whole};
-pub use files::{FileFault, Sum};
+pub use files::{FileFault, Sum, read_groups};
