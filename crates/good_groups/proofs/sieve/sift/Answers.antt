@@ -1,0 +1,11 @@
+use Rattle.good_groups.proofs.Steps.{sifts_none, sifts_then}
+use Rattle.good_groups.proofs.sieve.sift.Goals as goal
+
+pub lines-init : goal.lines-init
+lines-init c = record { ready = c.requires.ready; sifts = sifts_none c.args.rules.now c.args.sifter.now }
+
+pub lines-preserved : goal.lines-preserved
+lines-preserved c = record {
+  ready = c.in_ok-step.ensures.ready;
+  sifts = sifts_then c.args.rules.now c.args.sifter.now c.lines.sifter c.step.new.self c.lines.invariant.sifts c.in_ok-step.ensures.sifts;
+}
