@@ -38,7 +38,8 @@ STREAMS = [
         b"g\n1\n",
         b"",
         b'parstream: "--plan" is not understood: the options are --group, --agg, --where, --decimals, --separator,'
-        b" --null, --trim, --workers, --order, --limit, --output and --no-header; the input is the standard input, as in < FILE; see parstream --help\n",
+        b" --null, --trim, --workers, --order, --limit, --output, --skip-bad and --no-header; the input is the standard"
+        b" input, as in < FILE; see parstream --help\n",
         2,
     ),
     (

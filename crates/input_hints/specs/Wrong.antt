@@ -156,7 +156,7 @@ values_text opt.Trim = codes "--trim takes no value"
 
 -- what may come
 abbrev pub expected_text : Expected → List ℕ
-expected_text may.Name = codes "the options are --group, --agg, --where, --decimals, --separator, --null, --trim, --workers, --order, --limit, --output and --no-header; the input is the standard input, as in < FILE"
+expected_text may.Name = codes "the options are --group, --agg, --where, --decimals, --separator, --null, --trim, --workers, --order, --limit, --output, --skip-bad and --no-header; the input is the standard input, as in < FILE"
 expected_text may.Other = codes "this option may be given once"
 expected_text (may.Value name) = values_text name
 expected_text may.Items = codes "--agg ITEMS is missing"

@@ -14,7 +14,7 @@ pub const HELP: &str = "\
 usage: parstream [--group COLUMNS] --agg ITEMS [--where FILTER]..
                  [--decimals PLACES] [--separator BYTE] [--null TEXTS] [--trim]
                  [--workers N] [--order COLUMN] [--limit N] [--output FORM]
-                 [--no-header]
+                 [--skip-bad N] [--no-header]
        parstream partial [--source I/N] [--group COLUMNS] --agg ITEMS ..
        parstream partial --bytes FROM[-TO] --size S [--source I/N] ..
        parstream combine
@@ -51,6 +51,9 @@ table of the rows of all sources, if it reads the states of all of them.
                    sum:qty:desc; year:numeric orders keys that are integers
   --limit N        at most the first N rows of the table
   --output FORM    csv, tsv, json (an object a line) or aligned (for a reader)
+  --skip-bad N     leaves out rows that are refused, if there are at most N of
+                   them, and says on the standard error how many and which is
+                   the first
   --no-header      the input has no header: its columns are called 1, 2, 3 and
                    so on
   --source I/N     with partial: the number of the source, from 0 on, and how

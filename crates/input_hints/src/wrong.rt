@@ -444,7 +444,7 @@ impl Expected {
     {
         match self {
             Expected::Name => {
-                "the options are --group, --agg, --where, --decimals, --separator, --null, --trim, --workers, --order, --limit, --output and --no-header; the input is the standard input, as in < FILE"
+                "the options are --group, --agg, --where, --decimals, --separator, --null, --trim, --workers, --order, --limit, --output, --skip-bad and --no-header; the input is the standard input, as in < FILE"
             }
             Expected::Other => "this option may be given once",
             Expected::Value(name) => name.values(),

@@ -15,7 +15,7 @@ use input_hints::{Peeked, asked_of, refuse_input, refuse_words, tell};
 use par_io::{StdSink, StdSource};
 use par_stream::{NO_MEMORY, Separated, WINDOW_BYTES, say_usage};
 use progress::ProgressLine;
-use shown_stream::{refuse_options, shown_input, shown_table, take_options};
+use shown_stream::{refuse_options, shown_good, shown_input, shown_table, skip_of, take_options};
 use state_forms::{form_of, run_form};
 use state_partial::{part_words, partial_states};
 use std::env::Env;
@@ -101,15 +101,29 @@ fn main(rt: HostRuntime) -> ExitCode {
         let _ = eprintln!(rt; "parstream: out of memory");
         return ExitCode::from(NO_MEMORY);
     };
-    let status = shown_table(
-        &rt,
-        rt.alloc(),
-        &taken,
-        &mut source,
-        &mut out,
-        &mut err,
-        WINDOW_BYTES,
-        &mut ProgressLine::new(&rt, rt.stderr()),
-    );
+    let mut progress = ProgressLine::new(&rt, rt.stderr());
+    let status = if skip_of(&taken) == 0 {
+        shown_table(
+            &rt,
+            rt.alloc(),
+            &taken,
+            &mut source,
+            &mut out,
+            &mut err,
+            WINDOW_BYTES,
+            &mut progress,
+        )
+    } else {
+        shown_good(
+            &rt,
+            rt.alloc(),
+            &taken,
+            &mut source,
+            &mut out,
+            &mut err,
+            WINDOW_BYTES,
+            &mut progress,
+        )
+    };
     ExitCode::from(status)
 }

@@ -24,6 +24,11 @@ tells_memory (Some query) from = tt
 abbrev pub Reason : Option Query → Option (List ℕ) → ℕ → Option (List ℕ) → Option (List ℕ) → ℕ → ℕ → Type 0
 Reason asked from status old new before now = (why : Stop) × TellsOf asked from why × (status ≡ (stop_says why).0) × IsSaid old new before now (line (stop_says why).1)
 
+-- without a fault all of a line is there
+pub said_whole : (start said : List ℕ) (before faults : ℕ) (text : List ℕ) → start ≡ [] → before ≡ 0 → faults ≡ 0 → IsSaid (Some start) (Some said) before faults text → said ≡ text
+said_whole start said before faults text none zero fine (inl wrote) = wrote ∙ ap (λ (s : List ℕ). s ++ text) none
+said_whole start said before faults text none zero fine (inr rose) = let risen = rose.0 in absurd (omega (arith, zero, fine, risen))
+
 module _ (from : Option (List ℕ)) where
   -- a write of a table fails only if there is a table
   tells_write : (asked : Option Query) (query : Query) (a b : Option (List ℕ)) → asked ≡ Some query → IfSome from (λ bytes. (text : List ℕ) × IsTableText asked bytes text × Appends a b text) → TellsOf asked from stop.WriteFault
@@ -46,11 +51,6 @@ module _ (from : Option (List ℕ)) where
       let reason = why told.0 in
       let whole = said_whole start said none_yet faults (line (stop_says reason.0).1) none zero told.3 reason.3 in
       (reason.0, reason.1, told.2 ∙ reason.2, subst (λ (text : List ℕ). IsSaid old new before now text) whole told.4)
-    where
-      -- without a fault all of a line is there
-      said_whole : (start said : List ℕ) (before faults : ℕ) (text : List ℕ) → start ≡ [] → before ≡ 0 → faults ≡ 0 → IsSaid (Some start) (Some said) before faults text → said ≡ text
-      said_whole start said before faults text none zero fine (inl wrote) = wrote ∙ ap (λ (s : List ℕ). s ++ text) none
-      said_whole start said before faults text none zero fine (inr rose) = let risen = rose.0 in absurd (omega (arith, zero, fine, risen))
 
 -- its status is a read fault only if the query's is
 pub read_kept : (status : ℕ) (said : List ℕ) (faults ends : ℕ) (old new : Option (List ℕ)) (before now : ℕ) → ends ≡ READ_FAULT → EndsFor status said faults ends old new before now → status ≡ READ_FAULT

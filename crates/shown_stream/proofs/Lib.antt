@@ -1,3 +1,5 @@
 pub mod Hows
 pub mod Tables
 pub mod Ends
+pub mod GoodTables
+pub mod GoodEnds

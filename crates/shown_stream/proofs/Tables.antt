@@ -14,12 +14,12 @@ use Rattle.table_form.specs.declared.form.Form.TheVariants as written
 use Rattle.table_order.specs.Shown.{AreOrdered, first_of}
 use Rattle.table_order.specs.declared.order.Order.{Order}
 use Rattle.shown_stream.specs.Ended.{PutsPart, PutsShown}
-use Rattle.shown_stream.specs.Shown.{IsFormText, IsShownOf, shown_by}
+use Rattle.shown_stream.specs.Shown.{IsFormText, IsShownOf}
 use Rattle.shown_stream.specs.declared.how.ByColumn.{ByColumn}
 use Rattle.shown_stream.specs.declared.how.How.{How}
 
 -- a text that answers a plan is that of a header and rows
-answer_rows : (plan : NamedPlan) (records : List (List (List ℕ))) (text : List ℕ) → IsAnswer plan records text → (header : List (List ℕ)) × (rows : List (List (List ℕ))) × (text ≡ table_text (header ∷ rows))
+pub answer_rows : (plan : NamedPlan) (records : List (List (List ℕ))) (text : List ℕ) → IsAnswer plan records text → (header : List (List ℕ)) × (rows : List (List (List ℕ))) × (text ≡ table_text (header ∷ rows))
 unfolding IsAnswer
 answer_rows plan [] text is = absurd is
 answer_rows plan (header ∷ rows) text is = (table_header plan, map (group_record (bound_plan header plan) rows) is.1.groups, is.2 ∙ ap table_text is.1.is)

@@ -48,7 +48,7 @@ pub(crate) fn end_kept<O: Sink, E: Sink>(
 }
 
 /// Writes bytes that were said. A failed write ends it, and changes nothing else.
-fn say_bytes<E: Sink>(err: &mut E, said: &[u8])
+pub(crate) fn say_bytes<E: Sink>(err: &mut E, said: &[u8])
     ensures { IsSaid (E.taken err.old) (E.taken err.new) (E.faults err.old) (E.faults err.new) said.now }
 {
     let _ = write_whole(err, said);

@@ -23,6 +23,7 @@ ghost use Rattle.stream_groups.specs.Stops.{TellsOf, stop_says};
 ghost use Rattle.shown_stream.specs.declared.how.How.{How};
 ghost use Rattle.stream_groups.specs.declared.stop.Stop.{Stop};
 
+mod good;
 mod how;
 mod input;
 mod kept;
@@ -31,6 +32,7 @@ mod text;
 use crate::how::{how_of, say_memory, say_wrong};
 use crate::kept::end_kept;
 use crate::text::Text;
+pub use good::{shown_good, skip_of};
 pub use how::{ByColumn, How, refuse_options};
 pub use input::shown_input;
 use par_io::{Sink, Source};

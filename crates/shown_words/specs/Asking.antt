@@ -20,11 +20,12 @@ pub record NamedOrder : Type 0 where
   pub numeric : Bool
   pub down : Bool
 
--- an order if one is asked for, the most rows if they are limited, and the form
+-- an order if one is asked for, the most rows if they are limited, the form, and how many rows that are refused may be left out
 pub record NamedShown : Type 0 where
   pub order : Option NamedOrder
   pub limit : Option ℕ
   pub form : Form
+  pub skip : ℕ
 
 -- ---- an order
 
@@ -86,6 +87,17 @@ form_given [] = Ok written.Csv
 form_given (text ∷ []) = form_by (form_in text)
 form_given (text ∷ next ∷ rest) = Err (wrong.Twice opt.Output)
 
+-- the number of `--skip-bad`, if it is one
+abbrev pub skip_by : Option ℕ → Result ℕ Wrong
+skip_by None = Err (wrong.Value opt.SkipBad)
+skip_by (Some skip) = Ok skip
+
+-- how many refused rows may be left out, by the values of `--skip-bad`: there may be one, and without it that is none
+abbrev pub skip_given : List (List ℕ) → Result ℕ Wrong
+skip_given [] = Ok 0
+skip_given (text ∷ []) = skip_by (limit_in text)
+skip_given (text ∷ next ∷ rest) = Err (wrong.Twice opt.SkipBad)
+
 -- whether `--no-header` is given, by its values: there may be one, which is empty
 abbrev pub no_header_given : List (List ℕ) → Result Bool Wrong
 no_header_given [] = Ok false
@@ -93,22 +105,24 @@ no_header_given ([] ∷ []) = Ok true
 no_header_given ((byte ∷ bytes) ∷ []) = Err (wrong.Value opt.NoHeader)
 no_header_given (text ∷ next ∷ rest) = Err (wrong.Twice opt.NoHeader)
 
--- all of them, or the first thing that is wrong: a value that is missing, the order, the limit, the form, the header
-abbrev pub asked_by : Option Name → Result (Option NamedOrder) Wrong → Result (Option ℕ) Wrong → Result Form Wrong → Result Bool Wrong → Result NamedShown Wrong
-asked_by (Some name) order limit form no_header = Err (wrong.Missing name)
-asked_by None (Err w) limit form no_header = Err w
-asked_by None (Ok order) (Err w) form no_header = Err w
-asked_by None (Ok order) (Ok limit) (Err w) no_header = Err w
-asked_by None (Ok order) (Ok limit) (Ok form) (Err w) = Err w
-asked_by None (Ok order) (Ok limit) (Ok form) (Ok no_header) = Ok (record { order = order; limit = limit; form = form })
+-- all of them, or the first thing that is wrong: a value that is missing, the order, the limit, the form, the rows to leave out,
+-- the header
+abbrev pub asked_by : Option Name → Result (Option NamedOrder) Wrong → Result (Option ℕ) Wrong → Result Form Wrong → Result ℕ Wrong → Result Bool Wrong → Result NamedShown Wrong
+asked_by (Some name) order limit form skip no_header = Err (wrong.Missing name)
+asked_by None (Err w) limit form skip no_header = Err w
+asked_by None (Ok order) (Err w) form skip no_header = Err w
+asked_by None (Ok order) (Ok limit) (Err w) skip no_header = Err w
+asked_by None (Ok order) (Ok limit) (Ok form) (Err w) no_header = Err w
+asked_by None (Ok order) (Ok limit) (Ok form) (Ok skip) (Err w) = Err w
+asked_by None (Ok order) (Ok limit) (Ok form) (Ok skip) (Ok no_header) = Ok (record { order = order; limit = limit; form = form; skip = skip })
 
 -- what the options ask for
 abbrev pub asked_in : Took → Result NamedShown Wrong
-asked_in took = asked_by took.next (order_given took.orders) (limit_given took.limits) (form_given took.outputs) (no_header_given took.no_headers)
+asked_in took = asked_by took.next (order_given took.orders) (limit_given took.limits) (form_given took.outputs) (skip_given took.skips) (no_header_given took.no_headers)
 
 -- the same of the values of the code
 abbrev pub order_as : OrderBy → NamedOrder
 order_as order = record { name = order.name.now; numeric = order.numeric; down = order.down }
 
 abbrev pub asked_as : Asked → NamedShown
-asked_as asked = record { order = option_map order_as asked.order; limit = asked.limit; form = asked.form }
+asked_as asked = record { order = option_map order_as asked.order; limit = asked.limit; form = asked.form; skip = asked.skip }

@@ -15,6 +15,7 @@ abbrev pub name_text : Name → List ℕ
 name_text opt.Order = codes "--order"
 name_text opt.Limit = codes "--limit"
 name_text opt.Output = codes "--output"
+name_text opt.SkipBad = codes "--skip-bad"
 name_text opt.NoHeader = codes "--no-header"
 
 -- what the value of an option may be
@@ -22,6 +23,7 @@ abbrev pub values_text : Name → List ℕ
 values_text opt.Order = codes "--order takes an item of --agg or a column of --group, as in sum:qty, sum:qty:desc or year:numeric"
 values_text opt.Limit = codes "--limit takes a number of one to eighteen digits"
 values_text opt.Output = codes "--output takes csv, tsv, json or aligned"
+values_text opt.SkipBad = codes "--skip-bad takes a number of one to eighteen digits"
 values_text opt.NoHeader = codes "--no-header takes no value"
 
 -- the values that an option was given
@@ -29,6 +31,7 @@ abbrev pub values_of : Took → Name → List (List ℕ)
 values_of took opt.Order = took.orders
 values_of took opt.Limit = took.limits
 values_of took opt.Output = took.outputs
+values_of took opt.SkipBad = took.skips
 values_of took opt.NoHeader = took.no_headers
 
 -- what is wrong, and what the option takes

@@ -1,7 +1,7 @@
 //! What the options ask for.
 
 ghost use Rattle.std.specs.Prelude.{◌≡◌, ◌-◌, Err, MatchResult, Ok, codes, length, map, option_map};
-ghost use Rattle.shown_words.specs.Asking.{asked_as, asked_in, direction_in, form_given, has_end, limit_given, limit_in, named_in, no_header_given, order_as, order_given, order_in, without_end};
+ghost use Rattle.shown_words.specs.Asking.{asked_as, asked_in, direction_in, form_given, has_end, limit_given, limit_in, named_in, no_header_given, order_as, order_given, order_in, skip_given, without_end};
 ghost use Rattle.shown_words.specs.Taking.{taken_as};
 
 use crate::taken::{Name, Taken};
@@ -15,12 +15,14 @@ pub struct OrderBy<'a> {
     pub down: bool,
 }
 
-/// How a table is to be shown.
+/// How a table is to be shown, and of which rows.
 #[derive(Clone, Copy, Debug)]
 pub struct Asked<'a> {
     pub order: Option<OrderBy<'a>>,
     pub limit: Option<usize>,
     pub form: Form,
+    /// How many rows that are refused may be left out.
+    pub skip: u64,
 }
 
 /// What is wrong with an option: its value is missing, it is given twice, or its value is none.
@@ -41,8 +43,14 @@ pub fn asked_of<'a>(taken: &Taken<'a>) -> Result<Asked<'a>, Wrong>
     let order = order_given(taken.orders.as_slice())?;
     let limit = limit_given(taken.limits.as_slice())?;
     let form = form_given(taken.outputs.as_slice())?;
+    let skip = skip_given(taken.skips.as_slice())?;
     no_header_given(taken.no_headers.as_slice())?;
-    Ok(Asked { order, limit, form })
+    Ok(Asked {
+        order,
+        limit,
+        form,
+        skip,
+    })
 }
 
 /// The order of the values of its option.
@@ -87,6 +95,20 @@ fn form_given(values: &[&str]) -> Result<Form, Wrong>
             None => Err(Wrong::Value(Name::Output)),
         },
         _ => Err(Wrong::Twice(Name::Output)),
+    }
+}
+
+/// How many refused rows may be left out, by the values of the option.
+fn skip_given(values: &[&str]) -> Result<u64, Wrong>
+    ensures { result ≡ skip_given (map (λ value. value.now) values.now) }
+{
+    match values {
+        [] => Ok(0),
+        [text] => match limit_of(text.as_bytes()) {
+            Some(skip) => Ok(skip as u64),
+            None => Err(Wrong::Value(Name::SkipBad)),
+        },
+        _ => Err(Wrong::Twice(Name::SkipBad)),
     }
 }
 

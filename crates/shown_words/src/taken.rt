@@ -7,12 +7,13 @@ ghost use Rattle.shown_words.specs.Words.{option_as};
 
 use std::alloc::{AllocError, Global};
 
-/// An option that says how a table is shown, or that the input has no header.
+/// An option that says how a table is shown, how many refused rows may be left out, or that the input has no header.
 #[derive(Clone, Copy, Debug, PartialEq, Eq)]
 pub enum Name {
     Order,
     Limit,
     Output,
+    SkipBad,
     NoHeader,
 }
 
@@ -24,6 +25,7 @@ pub struct Taken<'a> {
     pub orders: Vec<&'a str>,
     pub limits: Vec<&'a str>,
     pub outputs: Vec<&'a str>,
+    pub skips: Vec<&'a str>,
     pub no_headers: Vec<&'a str>,
     pub next: Option<Name>,
 }
@@ -46,6 +48,7 @@ pub fn take_options<'a>(alloc: Global, words: &'a [String]) -> Result<Taken<'a>,
         orders: Vec::new(alloc),
         limits: Vec::new(alloc),
         outputs: Vec::new(alloc),
+        skips: Vec::new(alloc),
         no_headers: Vec::new(alloc),
         next: None,
     };
@@ -99,6 +102,7 @@ fn put_value<'a>(taken: &mut Taken<'a>, name: Name, value: &'a str) -> Result<()
         Name::Order => taken.orders.push(value)?,
         Name::Limit => taken.limits.push(value)?,
         Name::Output => taken.outputs.push(value)?,
+        Name::SkipBad => taken.skips.push(value)?,
         Name::NoHeader => taken.no_headers.push(value)?,
     }
     taken.next = None;
@@ -134,6 +138,8 @@ fn name_of(word: &str) -> Option<Name>
         Some(Name::Limit)
     } else if word == "--output" {
         Some(Name::Output)
+    } else if word == "--skip-bad" {
+        Some(Name::SkipBad)
     } else if word == "--no-header" {
         Some(Name::NoHeader)
     } else {

@@ -54,6 +54,7 @@ fn first_value<'a>(taken: &Taken<'a>, name: Name) -> &'a [u8]
         Name::Order => first_of(taken.orders.as_slice()),
         Name::Limit => first_of(taken.limits.as_slice()),
         Name::Output => first_of(taken.outputs.as_slice()),
+        Name::SkipBad => first_of(taken.skips.as_slice()),
         Name::NoHeader => first_of(taken.no_headers.as_slice()),
     }
 }
@@ -126,6 +127,7 @@ fn name_text(name: Name) -> &'static str
         Name::Order => "--order",
         Name::Limit => "--limit",
         Name::Output => "--output",
+        Name::SkipBad => "--skip-bad",
         Name::NoHeader => "--no-header",
     }
 }
@@ -140,6 +142,7 @@ fn values_text(name: Name) -> &'static str
         }
         Name::Limit => "--limit takes a number of one to eighteen digits",
         Name::Output => "--output takes csv, tsv, json or aligned",
+        Name::SkipBad => "--skip-bad takes a number of one to eighteen digits",
         Name::NoHeader => "--no-header takes no value",
     }
 }

@@ -9,6 +9,8 @@ mod faults;
 #[cfg(test)]
 mod filters;
 #[cfg(test)]
+mod left_out;
+#[cfg(test)]
 mod lines;
 #[cfg(test)]
 mod separators;

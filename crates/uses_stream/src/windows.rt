@@ -17,7 +17,7 @@ pub(crate) struct Answer {
 }
 
 /// The words of a text, which are separated by spaces.
-fn words_of(alloc: Global, text: &str) -> Result<Vec<String>, AllocError> {
+pub(crate) fn words_of(alloc: Global, text: &str) -> Result<Vec<String>, AllocError> {
     let mut words = Vec::new(alloc);
     for word in text.split(' ') {
         words.push(String::from_str(alloc, word)?)?;
@@ -26,12 +26,12 @@ fn words_of(alloc: Global, text: &str) -> Result<Vec<String>, AllocError> {
 }
 
 /// A source that gives 3 bytes a call.
-fn source_of(alloc: Global, input: &[u8]) -> Result<MemSource, AllocError> {
+pub(crate) fn source_of(alloc: Global, input: &[u8]) -> Result<MemSource, AllocError> {
     Ok(MemSource::new(Vec::from_slice(alloc, input)?, 3, Vec::new(alloc)))
 }
 
 /// A sink that takes 5 bytes a call.
-fn sink(alloc: Global) -> Result<MemSink, AllocError> {
+pub(crate) fn sink(alloc: Global) -> Result<MemSink, AllocError> {
     MemSink::new(alloc, 5, 10_000, Vec::new(alloc))
 }
 
@@ -75,7 +75,7 @@ pub(crate) fn answered<R: Threads + Wait + Sync>(
 }
 
 /// A line after the name of its program, which has nine letters.
-fn after_name(alloc: Global, line: &[u8]) -> Result<Vec<u8>, AllocError> {
+pub(crate) fn after_name(alloc: Global, line: &[u8]) -> Result<Vec<u8>, AllocError> {
     Vec::from_slice(alloc, &line[line.len().min(9)..])
 }
 

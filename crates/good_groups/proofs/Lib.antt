@@ -1,0 +1,13 @@
+mod Pieces
+mod Texts
+mod Counting
+mod Rows
+mod Steps
+mod Ends
+mod Long
+mod Early
+mod Begins
+mod Goes
+mod Gives
+mod Sieves
+mod Exchanging
