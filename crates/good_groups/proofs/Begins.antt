@@ -88,20 +88,20 @@ module _ (o : Opened) (r : Rules) (are : AreRules o r) where
   good_as : (rows : Table) → good_rows r.bound.now (length o.header) rows ≡ good_rows (bound_plan o.header o.query.plan) (length o.header) rows
   good_as rows = ap (λ (b : Plan). good_rows b (length o.header) rows) are.bound.is
 
-  sifted : (c : ℕ) (rest : List ℕ) (p : _) → IsBegun (c ∷ []) p → records_as reading (r.header.now ++ left_of (keeps r) p (c ∷ []) rest) ≡ good_records o.query (o.header ∷ records_as reading (c ∷ rest))
-  sifted c rest p b =
+  sifted : IsCut r.header.now → (c : ℕ) (rest : List ℕ) (p : _) → IsBegun (c ∷ []) p → records_as reading (r.header.now ++ left_of (keeps r) p (c ∷ []) rest) ≡ good_records o.query (o.header ∷ records_as reading (c ∷ rest))
+  sifted cut c rest p b =
       let after = left_of (keeps r) p (c ∷ []) rest in
       let begun = left_begins (keeps r) c [] rest p in
-      as_add_up reading r.header.now after (record { whole = are.cut; line = subst BeginsLine (sym begun.1) (begins_one c begun.0 b.begins.is) })
+      as_add_up reading r.header.now after (record { whole = cut; line = subst BeginsLine (sym begun.1) (begins_one c begun.0 b.begins.is) })
       ∙ ap (λ (t : Table). t ++ records_as reading after) are.one
       ∙ ap (λ (t : Table). o.header ∷ t) (ap (records_as reading) (keeps_as (c ∷ []) p rest) ∙ rows_left reading r.bound.now (length o.header) (c ∷ []) rest p b ∙ good_as (records_as reading (c ∷ rest)))
 
-  pub good_left : (from left : Option (List ℕ)) (feeds c : ℕ) (more : List ℕ) (p : _) → IsBegun (c ∷ []) p → HasRead reading from (prepend_known more left) (o.header ∷ []) feeds (c ∷ [])
+  pub good_left : IsCut r.header.now → (from left : Option (List ℕ)) (feeds c : ℕ) (more : List ℕ) (p : _) → IsBegun (c ∷ []) p → HasRead reading from (prepend_known more left) (o.header ∷ []) feeds (c ∷ [])
       → IfSome from (λ bytes. (text : List ℕ) × (prepend_known r.header.now (option_map (left_of (keeps r) p (c ∷ [])) (prepend_known more left)) ≡ Some text) × (records_as reading text ≡ good_records o.query (records_as reading bytes)))
-  good_left None left feeds c more p b read = tt
-  good_left (Some bytes) None feeds c more p b read = absurd read
-  good_left (Some bytes) (Some left) feeds c more p b read =
-      (r.header.now ++ left_of (keeps r) p (c ∷ []) (more ++ left), refl, sifted c (more ++ left) p b ∙ ap (good_records o.query) (sym read.parts))
+  good_left cut None left feeds c more p b read = tt
+  good_left cut (Some bytes) None feeds c more p b read = absurd read
+  good_left cut (Some bytes) (Some left) feeds c more p b read =
+      (r.header.now ++ left_of (keeps r) p (c ∷ []) (more ++ left), refl, sifted cut c (more ++ left) p b ∙ ap (good_records o.query) (sym read.parts))
 
 -- ---- the first window
 
@@ -164,12 +164,12 @@ module _ (o : Opened) (left : Option (List ℕ)) (r : Rules) (are : AreRules o r
   ]
 
   module _ (s : Sifting) (ahead : s.sifter.ahead ≡ r.header.now) (tally : s.sifter.tally ≡ record { rows = 0; feeds = f.feeds; count = 0; first = None }) (halt : s.halt ≡ None) (fresh : s.lacks ≡ 0) where
-    halted : IsHalted s.halt s
-    halted = subst (λ h. IsHalted h s) (sym halt) fresh
+    halted : IsHalted o s.halt s
+    halted = subst (λ h. IsHalted o h s) (sym halt) fresh
 
     -- a line begins
-    pub line_begun : (c : ℕ) (more : List ℕ) → f.window.lines ++ f.window.rest ≡ c ∷ more → s.is_done ≡ false → s.sifter.line.items ≡ c ∷ [] → s.sifter.place ≡ place.Opens → s.sifter.pending ≡ more → IsBegunOver o left r s
-    line_begun c more text going line at pending =
+    pub line_begun : IsCut r.header.now → (c : ℕ) (more : List ℕ) → f.window.lines ++ f.window.rest ≡ c ∷ more → s.is_done ≡ false → s.sifter.line.items ≡ c ∷ [] → s.sifter.place ≡ place.Opens → s.sifter.pending ≡ more → IsBegunOver o left r s
+    line_begun cut c more text going line at pending =
         let ends = begins_is f.window.lines f.window.rest c more f.is_last text is.lined.begins none is.header.next in
         let read = first_read c more text ends in
         let begun : IsBegun (c ∷ []) place.Opens = subst (IsBegun (c ∷ [])) (line_place c ends) (begun_one place.Opens c ends (λ e. cc e)) in
@@ -182,6 +182,7 @@ module _ (o : Opened) (left : Option (List ℕ)) (r : Rules) (are : AreRules o r
               rows = [];
               counted = subst (λ t. HasCounted o r.bound.now t []) (sym tally) (count_nothing o r.bound.now f.feeds);
               begun = subst (λ (t : List ℕ). IsBegun t s.sifter.place) (sym line) (subst (IsBegun (c ∷ [])) (sym at) begun);
+              cut = cut;
               few = omega (arith, is.few, ap (λ t. t.feeds) tally);
               read =
                   subst (λ t. HasRead o.query.reading o.from (prepend_known s.sifter.pending left) (o.header ∷ []) t.feeds s.sifter.line.items) (sym tally)
@@ -193,7 +194,7 @@ module _ (o : Opened) (left : Option (List ℕ)) (r : Rules) (are : AreRules o r
           };
           fresh = fresh;
           good = subst (λ x. IfSome o.from (λ bytes. (text : List ℕ) × (x ≡ Some text) × (records_as o.query.reading text ≡ good_records o.query (records_as o.query.reading bytes)))) (sym left_is)
-              (good_left o r are o.from left f.feeds c more place.Opens begun read);
+              (good_left o r are cut o.from left f.feeds c more place.Opens begun read);
         }
 
     -- or there is none

@@ -48,18 +48,18 @@ pub gives_none : (o : Opened) (r : Rules) (left : Option (List ℕ)) (b : Siftin
 gives_none o r left b ahead is done none =
     subst IsAtEnd (sym (by_parts r left b ahead ∙ ap (λ (d : Bool). prepend_known ahead (if d then left else option_map (rest_left r b.sifter) (prepend_known b.sifter.pending left))) done)) (at_end left ahead none (is.done done).end)
 
-halted_given : (h : Option Halt) (b : Sifting) (ahead : List ℕ) → IsHalted h b → IsHalted h (record b { sifter = record b.sifter { ahead = ahead } })
-halted_given None b ahead is = is
-halted_given (Some halt.TooMany) b ahead is = is
-halted_given (Some halt.Long) b ahead is = is
-halted_given (Some halt.Memory) b ahead is = is
+halted_given : (o : Opened) (h : Option Halt) (b : Sifting) (ahead : List ℕ) → IsHalted o h b → IsHalted o h (record b { sifter = record b.sifter { ahead = ahead } })
+halted_given o None b ahead is = is
+halted_given o (Some halt.TooMany) b ahead is = is
+halted_given o (Some halt.Long) b ahead is = is
+halted_given o (Some halt.Memory) b ahead is = is
 
 -- it is one still
 pub given_is : (o : Opened) (r : Rules) (left : Option (List ℕ)) (b : Sifting) (ahead : List ℕ) → IsSifting o left r b → IsSifting o left r (record b { sifter = record b.sifter { ahead = ahead } })
 given_is o r left b ahead is = record {
-  going = λ e. let was = is.going e in record { rows = was.rows; counted = was.counted; begun = was.begun; few = was.few; read = was.read };
+  going = λ e. let was = is.going e in record { rows = was.rows; counted = was.counted; begun = was.begun; cut = was.cut; few = was.few; read = was.read };
   done = λ e. let was = is.done e in record { rows = was.rows; counted = was.counted; all = was.all; end = was.end };
-  halted = halted_given b.halt b ahead is.halted;
+  halted = halted_given o b.halt b ahead is.halted;
 }
 
 -- memory ran out

@@ -7,6 +7,7 @@ use Rattle.csv_rows.specs.declared.cleaning.Reading.{Reading}
 use Rattle.row_blocks.specs.Blocks.{Table}
 use Rattle.row_windows.specs.declared.window.TheConstants.{MOST_RECORD_BYTES}
 use Rattle.stream_groups.specs.Reading.{HasRead}
+use Rattle.good_groups.specs.Counted.{HasTooMany}
 use Rattle.good_groups.specs.Opened.{Opened}
 use Rattle.good_groups.specs.Sifting.{GoesOn, IsHalted, IsOpen, rest_left, sifter_left, sifting_left}
 use Rattle.good_groups.specs.declared.sieve.Sifting.{Sifting}
@@ -35,10 +36,10 @@ goes_then o r old mid new a b c f g = record {
 pub goes_none : (o : Opened) (r : Rules) (left : Option (List ℕ)) (a : Sifting) → GoesOn o r left left a a
 goes_none o r left a = record { keeps = keeps_same (sifting_left r left a) (sifting_left r left a) refl; is = λ s. s }
 
-halted_by : (why : Halt) (b : Sifting) → b.is_done ≡ false → (why ≡ halt.TooMany → is_some b.sifter.tally.first ≡ true) → (why ≡ halt.Long → MOST_RECORD_BYTES < length b.sifter.line.items) → IsHalted (Some why) b
-halted_by halt.TooMany b going many long = many refl
-halted_by halt.Long b going many long = (going, long refl)
-halted_by halt.Memory b going many long = tt
+halted_by : (o : Opened) (why : Halt) (b : Sifting) → b.is_done ≡ false → (why ≡ halt.TooMany → (is_some b.sifter.tally.first ≡ true) × HasTooMany o) → (why ≡ halt.Long → MOST_RECORD_BYTES < length b.sifter.line.items) → IsHalted o (Some why) b
+halted_by o halt.TooMany b going many long = many refl
+halted_by o halt.Long b going many long = (going, long refl)
+halted_by o halt.Memory b going many long = tt
 
 module _ (o : Opened) (r : Rules) (old new : Option (List ℕ)) (a : Sifting) (going : a.is_done ≡ false) where
   going_left : (left : Option (List ℕ)) (b : Sifting) → b.is_done ≡ false → sifting_left r left b ≡ sifter_left r left b.sifter
@@ -46,15 +47,15 @@ module _ (o : Opened) (r : Rules) (old new : Option (List ℕ)) (a : Sifting) (g
 
   -- it goes no further
   pub halted_goes : (n : Sifter) (why : Halt) (b : Sifting) → b ≡ record a { sifter = n; halt = Some why; lacks = one_more a.lacks } → Keeps (sifter_left r old a.sifter) (sifter_left r new n) → (IsOpen o old r a.sifter → IsOpen o new r n)
-      → (why ≡ halt.TooMany → is_some n.tally.first ≡ true) → (why ≡ halt.Long → MOST_RECORD_BYTES < length n.line.items) → GoesOn o r old new a b
-  halted_goes n why b is keeps opens many long =
+      → (why ≡ halt.TooMany → is_some n.tally.first ≡ true) → (why ≡ halt.TooMany → IsOpen o old r a.sifter → HasTooMany o) → (why ≡ halt.Long → MOST_RECORD_BYTES < length n.line.items) → GoesOn o r old new a b
+  halted_goes n why b is keeps opens known many long =
       let now : Sifting = record a { sifter = n; halt = Some why; lacks = one_more a.lacks } in
       subst (λ (x : Sifting). GoesOn o r old new a x) (sym is) (record {
         keeps = subst (λ x. Keeps x (sifting_left r new now)) (sym (going_left old a going)) (subst (Keeps (sifter_left r old a.sifter)) (sym (going_left new now going)) keeps);
         is = λ s. record {
           going = λ _. opens (s.going going);
           done = λ e. let bad : true ≡ false = sym e ∙ going in cc bad;
-          halted = halted_by why now going many long;
+          halted = halted_by o why now going (λ e. (known e, many e (s.going going))) long;
         };
       })
 
@@ -67,7 +68,7 @@ module _ (o : Opened) (r : Rules) (old new : Option (List ℕ)) (a : Sifting) (g
         is = λ s. record {
           going = λ _. opens (s.going going);
           done = λ e. let bad : true ≡ false = sym e ∙ going in cc bad;
-          halted = subst (λ h. IsHalted h now) (sym free) (subst (λ h. IsHalted h a) free s.halted);
+          halted = subst (λ h. IsHalted o h now) (sym free) (subst (λ h. IsHalted o h a) free s.halted);
         };
       }
 
@@ -96,6 +97,7 @@ filled_open o r old new s n none same took is =
       rows = is.rows;
       counted = is.counted;
       begun = is.begun;
+      cut = is.cut;
       few = is.few;
       read = filled_read o.query.reading o.from old new (o.header ∷ is.rows) s.tally.feeds s.line.items s.pending n.pending none took is.read;
     })

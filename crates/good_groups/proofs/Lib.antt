@@ -4,6 +4,10 @@ mod Counting
 mod Rows
 mod Steps
 mod Ends
+mod Long
+mod Early
 mod Begins
 mod Goes
 mod Gives
+mod Sieves
+mod Exchanging

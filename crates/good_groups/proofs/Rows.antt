@@ -35,7 +35,7 @@ use Rattle.good_groups.specs.declared.tally.Tally.{Tally}
 use Rattle.good_groups.proofs.Counting.{all_accepted}
 
 -- one record
-alone : (rows : Table) → length rows ≡ 1 → rows ≡ record_at rows 0 ∷ []
+pub alone : (rows : Table) → length rows ≡ 1 → rows ≡ record_at rows 0 ∷ []
 alone [] size = absurd (omega (arith, size))
 alone (x ∷ []) size = refl
 alone (x ∷ y ∷ rows) size = absurd (omega (arith, size))

@@ -52,6 +52,7 @@ module _ (r : Rules) (s n : Sifter) where
       rows = is.rows;
       counted = subst (λ t. HasCounted o r.bound.now t is.rows) (sym tally) is.counted;
       begun = subst (λ (t : List ℕ). IsBegun t n.place) (sym line) (on.begun s.line.items is.begun);
+      cut = is.cut;
       few = omega (arith, is.few, ap (λ t. t.feeds) tally);
       read =
           subst (λ t. HasRead o.query.reading o.from (prepend_known n.pending left) (o.header ∷ is.rows) t.feeds n.line.items) (sym tally)
@@ -83,11 +84,13 @@ module _ (r : Rules) (s n : Sifter) where
         let next : IsNext o old r s.tally.feeds is.rows s.line.items [] = record {
           part = is_part o.query.reading (o.header ∷ is.rows) s.tally.feeds w o.from old read begins;
           begins = begins_part o.query.reading (o.header ∷ is.rows) s.tally.feeds w o.from old read begins;
+          cut = is.cut;
         } in
         record {
           rows = is.rows ++ records_as o.query.reading s.line.items;
           counted = counts o old is.rows [] are next is.counted;
           begun = subst (λ (t : List ℕ). IsBegun t n.place) (sym line) (subst (IsBegun (c ∷ [])) (sym at) (begun_one s.place c is_end.0 is_end.1));
+          cut = is.cut;
           few = few;
           read =
               subst (λ (m : ℕ). HasRead o.query.reading o.from (prepend_known n.pending left) (o.header ∷ (is.rows ++ records_as o.query.reading s.line.items)) m n.line.items) (sym feeds)
@@ -103,6 +106,7 @@ not_counted r s n same feeds o left is counted = record {
   rows = is.rows;
   counted = counted;
   begun = subst (λ x. IsBegun x.line.items x.place) (sym same) is.begun;
+  cut = is.cut;
   few = omega (arith, is.few, feeds);
   read =
       subst (λ (m : ℕ). HasRead o.query.reading o.from (prepend_known n.pending left) (o.header ∷ is.rows) m n.line.items) (sym feeds)
@@ -141,6 +145,7 @@ module _ (r : Rules) (s : Sifter) (some : 0 < length s.pending) (ends : ends_her
       record {
         part = is_part o.query.reading (o.header ∷ is.rows) s.tally.feeds w o.from old is.read begins;
         begins = begins_part o.query.reading (o.header ∷ is.rows) s.tally.feeds w o.from old is.read begins;
+        cut = is.cut;
       }
 
   module _ (n : Sifter) (same : n ≡ record s { ahead = n.ahead; tally = n.tally }) where
@@ -193,6 +198,7 @@ module _ (r : Rules) (s : Sifter) (none : s.pending ≡ []) where
       record {
         part = is_part o.query.reading (o.header ∷ is.rows) s.tally.feeds w o.from old is.read begins;
         begins = begins_part o.query.reading (o.header ∷ is.rows) s.tally.feeds w o.from old is.read begins;
+        cut = is.cut;
       }
 
   last_left : (k : List ℕ → Bool) (p : Place) (line : List ℕ) → left_of k p line [] ≡ line_left k line
@@ -221,7 +227,7 @@ module _ (r : Rules) (s : Sifter) (none : s.pending ≡ []) where
             all = all_read o.query.reading o.from (prepend_known s.pending left) (o.header ∷ before.rows) s.tally.feeds s.line.items before.read (end_of left end);
             end = end;
           };
-          halted = subst (λ h. IsHalted h (record a { sifter = n; is_done = true })) (sym free) (subst (λ h. IsHalted h a) free is.halted);
+          halted = subst (λ h. IsHalted o h (record a { sifter = n; is_done = true })) (sym free) (subst (λ h. IsHalted o h a) free is.halted);
         };
   }
     where

@@ -1,13 +1,16 @@
 -- The good rows of the bytes of an input.
-use Rattle.std.specs.Prelude.{◌≡◌, ◌<◌, ◌≤◌, ◌+◌, [], ◌∷◌, ℕ, List, None, Option, Some, IfSome, length}
+use Rattle.std.specs.Prelude.{◌≡◌, ◌<◌, ◌≤◌, ◌+◌, ◌++◌, ◌⊎◌, [], ◌∷◌, ℕ, List, None, Option, Some, IfSome, length}
 use Rattle.par_model.specs.Named.{bound_plan}
 use Rattle.par_model.specs.Refuse.{refused_rows}
 use Rattle.par_model.specs.declared.refusal.Refusal.{Refusal}
 use Rattle.plan_spec.specs.Query.{Query}
 use Rattle.row_blocks.specs.Blocks.{Table}
+use Rattle.row_windows.specs.Seams.{IsLong}
 use Rattle.good_rows.specs.Good.{good_rows}
 use Rattle.stream_groups.specs.Stops.{Tells}
 use Rattle.stream_groups.specs.Ways.{Way}
+use Rattle.stream_groups.specs.declared.stop.RefusedRow.{RefusedRow}
+use Rattle.stream_groups.specs.declared.stop.Stop.{Stop}
 use Rattle.stream_groups.specs.declared.stop.Stop.TheVariants as stop
 use Rattle.good_groups.specs.declared.reading.LeftOut.{LeftOut}
 
@@ -29,3 +32,20 @@ good_way way query = record { text = way.text; records = λ bytes. good_records 
 pub record IsLeftOut (way : Way) (query : Query) (most : ℕ) (from : Option (List ℕ)) (out : Option LeftOut) : Type 0 where
   pub none : out ≡ None → IfSome from (λ bytes. refused_records query (way.records bytes) ≡ [])
   pub some : IfSome out (λ o. (0 < o.count) × (o.count ≤ most) × Tells way query from (stop.Refused o.first) × IfSome from (λ bytes. length (refused_records query (way.records bytes)) ≡ o.count))
+
+-- After some records of bytes, of which at most so many are refused, begins a record of more bytes than a record may have:
+-- from some place on they have the other records, and begin with some whose text is too long and cannot be cut
+pub record HasLongAfter (way : Way) (query : Query) (most : ℕ) (bytes : List ℕ) : Type 0 where
+  pub front : List ℕ
+  pub begun : List ℕ
+  pub back : List ℕ
+  pub are : bytes ≡ front ++ (begun ++ back)
+  pub before : Table
+  pub parts : way.records bytes ≡ before ++ way.records (begun ++ back)
+  pub few : length (refused_records query before) ≤ most
+  pub long : IsLong (way.text begun)
+
+-- a reason names a row only if there is no table without the refused rows: there are more of them than this, or a record is too
+-- long
+abbrev pub NamesIfNone : Way → Query → ℕ → Option (List ℕ) → Stop → Type 0
+NamesIfNone way query most from why = (first : RefusedRow) → why ≡ stop.Refused first → IfSome from (λ bytes. (most < length (refused_records query (way.records bytes))) ⊎ HasLongAfter way query most bytes)

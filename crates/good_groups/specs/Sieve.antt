@@ -1,5 +1,6 @@
 -- A source of which some lines are left out.
 use Rattle.std.specs.Prelude.{◌≡◌, ℕ, List, None, Option, Some}
+use Rattle.std.specs.Borrow.{GName}
 use Rattle.good_groups.specs.Counted.{AreRules}
 use Rattle.good_groups.specs.Opened.{Start, opened}
 use Rattle.good_groups.specs.Sifting.{IsSifting}
@@ -11,7 +12,7 @@ pub record Seen : Type 0 where
   pub left : Option (List ℕ)
   pub faults : ℕ
 
--- it is one of a reading that began, over a source that has this left
-abbrev pub IsSieve : Option Start → Option (List ℕ) → Rules → Sifting → Type 0
-IsSieve None left r s = ⊥
-IsSieve (Some start) left r s = (header : List (List ℕ)) × AreRules (opened start header) r × IsSifting (opened start header) left r s
+-- it is one of a reading that began, over the source to which this reference leads, and which has this left
+abbrev pub IsSieve : Option Start → GName → Option (List ℕ) → Rules → Sifting → Type 0
+IsSieve None name left r s = ⊥
+IsSieve (Some start) name left r s = (name ≡ start.name) × (header : List (List ℕ)) × AreRules (opened start header) r × IsSifting (opened start header) left r s

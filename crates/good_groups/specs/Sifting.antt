@@ -1,6 +1,7 @@
 -- A text of which some lines are left out.
 use Rattle.std.specs.Prelude.{◌≡◌, ◌<◌, ◌≤◌, ◌^◌, ◌∷◌, ℕ, Bool, List, None, Option, Some, false, if◌then◌else◌, is_some, length, option_map, true, ⊤}
 use Rattle.std.specs.Io.KnownBytes.{IsAtEnd, Keeps, prepend_known}
+use Rattle.csv_rows.specs.Cuts.{IsCut}
 use Rattle.csv_rows.specs.Readings.{records_as}
 use Rattle.good_rows.specs.Good.{has_good}
 use Rattle.good_rows.specs.Lines.{IsBegun, left_of}
@@ -8,7 +9,7 @@ use Rattle.par_model.specs.Columns.{HasColumns}
 use Rattle.row_blocks.specs.Blocks.{Table}
 use Rattle.row_windows.specs.declared.window.TheConstants.{MOST_RECORD_BYTES}
 use Rattle.stream_groups.specs.Reading.{HasAll, HasRead}
-use Rattle.good_groups.specs.Counted.{AreRules, HasCounted}
+use Rattle.good_groups.specs.Counted.{AreRules, HasCounted, HasTooMany}
 use Rattle.good_groups.specs.Opened.{Opened}
 use Rattle.good_groups.specs.declared.sifter.Halt.{Halt}
 use Rattle.good_groups.specs.declared.sifter.Halt.TheVariants as halt
@@ -38,11 +39,12 @@ pub record IsReady (r : Rules) (s : Sifter) : Type 0 where
   pub begun : IsBegun s.line.items s.place
   pub few : s.tally.feeds ≤ 2 ^ 60
 
--- the rows of the lines before the one at hand were counted
+-- the rows of the lines before the one at hand were counted, and the header's line ends outside quotes
 pub record IsOpen (o : Opened) (left : Option (List ℕ)) (r : Rules) (s : Sifter) : Type 0 where
   pub rows : Table
   pub counted : HasCounted o r.bound.now s.tally rows
   pub begun : IsBegun s.line.items s.place
+  pub cut : IsCut r.header.now
   pub few : s.tally.feeds ≤ 2 ^ 60
   pub read : HasRead o.query.reading o.from (prepend_known s.pending left) (o.header ∷ rows) s.tally.feeds s.line.items
 
@@ -59,16 +61,16 @@ pub record IsDone (o : Opened) (left : Option (List ℕ)) (r : Rules) (s : Sifte
   pub end : IsAtEnd left
 
 -- why it goes no further
-abbrev pub IsHalted : Option Halt → Sifting → Type 0
-IsHalted None s = s.lacks ≡ 0
-IsHalted (Some halt.TooMany) s = is_some s.sifter.tally.first ≡ true
-IsHalted (Some halt.Long) s = (s.is_done ≡ false) × (MOST_RECORD_BYTES < length s.sifter.line.items)
-IsHalted (Some halt.Memory) s = ⊤
+abbrev pub IsHalted : Opened → Option Halt → Sifting → Type 0
+IsHalted o None s = s.lacks ≡ 0
+IsHalted o (Some halt.TooMany) s = (is_some s.sifter.tally.first ≡ true) × HasTooMany o
+IsHalted o (Some halt.Long) s = (s.is_done ≡ false) × (MOST_RECORD_BYTES < length s.sifter.line.items)
+IsHalted o (Some halt.Memory) s = ⊤
 
 pub record IsSifting (o : Opened) (left : Option (List ℕ)) (r : Rules) (s : Sifting) : Type 0 where
   pub going : s.is_done ≡ false → IsOpen o left r s.sifter
   pub done : s.is_done ≡ true → IsDone o left r s.sifter
-  pub halted : IsHalted s.halt s
+  pub halted : IsHalted o s.halt s
 
 -- a piece more was sifted, or the source is at its end, or it goes no further: what is left is the same, and it is one still
 pub record GoesOn (o : Opened) (r : Rules) (old new : Option (List ℕ)) (a b : Sifting) : Type 0 where

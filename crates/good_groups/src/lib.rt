@@ -3,7 +3,7 @@
 //! A [`Sieve`](sieve::Sieve) is a source over the one of the input. It gives the header and the lines whose rows are good
 //! (`good_rows`), so that the rows are gathered as ever, by any workers. It counts the rows that it leaves out, keeps what is
 //! to be said of the first one, and fails once they are too many. What it has counted is known afterwards by the type of the
-//! sieve, which names what the source had left when the reading began ([`Origin`]).
+//! sieve, which names what the source had left when the reading began (`origin`).
 
 #![tactic(auto)]
 
@@ -15,5 +15,4 @@ mod sieve;
 mod sifter;
 mod tally;
 
-pub use origin::Origin;
 pub use reading::{GoodGroups, LeftOut, read_good};

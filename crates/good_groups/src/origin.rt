@@ -5,9 +5,9 @@ ghost use Rattle.good_groups.specs.Opened.{Start};
 
 use std::marker::Brand;
 
-/// What there was when a reading began. A type that a caller names by [`Brand`] stands for it, so that it is the same before
-/// and after calls that know a source only as a source.
-pub trait Origin {
+/// What there was when a reading began. A type stands for it, so that it is the same before and after calls that know the sieve
+/// only as a source: a call names it by [`Brand`].
+pub(crate) trait Origin {
     // The source, and what is asked of it.
     ghost start: { Option Start };
 }

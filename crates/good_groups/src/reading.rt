@@ -1,6 +1,8 @@
 //! The groups of the good rows.
 
-ghost use Rattle.std.specs.Prelude.{◌≡◌, ◌≤◌, ◌++◌, [], ℕ, List, None, Option, Err, IfErr, IfOk, IfSome, OnErr, OnOk, Some, true};
+ghost use Rattle.std.specs.Prelude.{◌≡◌, ◌<◌, ◌≤◌, ◌++◌, ◌∷◌, [], ℕ, List, None, Option, Err, IfErr, IfOk, IfSome, OnErr, OnOk, Some, length, true};
+ghost use Rattle.csv_rows.specs.Cuts.{IsCut};
+ghost use Rattle.csv_rows.specs.Readings.{records_as};
 ghost use Rattle.csv_rows.specs.declared.place.Place.TheVariants as place;
 ghost use Rattle.par_io.specs.Faults.{Rose};
 ghost use Rattle.csv_rows.specs.Records.{record_at};
@@ -13,7 +15,7 @@ ghost use Rattle.good_groups.specs.Begun.{IsBegunOver, IsFirstOf};
 ghost use Rattle.good_groups.specs.Counted.{AreRules};
 ghost use Rattle.good_groups.specs.Opened.{Opened};
 ghost use Rattle.good_groups.specs.declared.sifter.Rules.{Rules};
-ghost use Rattle.good_groups.specs.Good.{IsLeftOut, good_way};
+ghost use Rattle.good_groups.specs.Good.{IsLeftOut, NamesIfNone, good_way};
 ghost use Rattle.good_groups.specs.Sieve.{IsSieve};
 ghost use Rattle.good_groups.specs.Sifting.{IsSifting, sifting_left};
 
@@ -23,12 +25,13 @@ use crate::piece::Piece;
 use crate::sieve::{Sieve, Sifting};
 use crate::sifter::{Rules, Sifter};
 use crate::tally::Tally;
-use csv_rows::Place;
+use csv_rows::{Place, scanned, without_mark};
 use par_io::Source;
 use par_model::BoundPlan;
 use plan_spec::{MOST_WORKERS, Plan};
 use std::alloc::{AllocError, Global};
 use std::marker::{Brand, PhantomData};
+use std::snapshot::Snapshot;
 use std::sync::Wait;
 use std::thread::Threads;
 use stream_groups::{
@@ -55,65 +58,84 @@ const FIRST_BYTES: usize = 4096;
 
 /// Reads the whole source as `read_input` of `stream_groups` does, but leaves out the rows that are refused, if there are at
 /// most so many of them. If there are more the reason is the first one, as it is without. Each line is judged in the caller's
-/// thread, as it is read, with the memory of its fields. Gives the source back.
+/// thread, as it is read, with the memory of its fields.
 pub fn read_good<R: Threads + Wait + Sync, S: Source, P: Progress>(
     rt: &R,
     alloc: Global,
     plan: &Plan,
     workers: u32,
     most: u64,
-    mut source: Separated<S>,
+    source: &mut Separated<S>,
     size: usize,
     progress: &mut P,
-) -> (Result<GoodGroups, Stop>, Separated<S>)
+) -> Result<GoodGroups, Stop>
     requires workers { workers ≤ MOST_WORKERS }
-    ensures groups { IfOk result.0 (λ g. AreGroupsOver (good_way (of_bytes plan.now.reading) plan.now) plan.now (bare_left S.left source) g.groups) }
-    ensures left_out { IfOk result.0 (λ g. IsLeftOut (of_bytes plan.now.reading) plan.now most (bare_left S.left source) g.left_out) }
-    ensures why { IfErr result.0 (Tells (of_bytes plan.now.reading) plan.now (bare_left S.left source)) }
-    ensures read_fault { IfErr result.0 (λ why. why ≡ stop.ReadFault → Rose (bare_faults S.faults source) (bare_faults S.faults result.1)) }
-    ensures no_write { IfErr result.0 (λ why. (why ≡ stop.WriteFault) → ⊥) }
+    ensures groups { IfOk result (λ g. AreGroupsOver (good_way (of_bytes plan.now.reading) plan.now) plan.now (bare_left S.left source.old) g.groups) }
+    ensures left_out { IfOk result (λ g. IsLeftOut (of_bytes plan.now.reading) plan.now most (bare_left S.left source.old) g.left_out) }
+    ensures why { IfErr result (Tells (of_bytes plan.now.reading) plan.now (bare_left S.left source.old)) }
+    ensures many { IfErr result (NamesIfNone (of_bytes plan.now.reading) plan.now most (bare_left S.left source.old)) }
+    ensures read_fault { IfErr result (λ why. why ≡ stop.ReadFault → Rose (bare_faults S.faults source.old) (bare_faults S.faults source.new)) }
+    ensures no_write { IfErr result (λ why. (why ≡ stop.WriteFault) → ⊥) }
 {
     source.separate(plan.reading().separator);
-    read_text::<R, Separated<S>, P, Brand>(rt, alloc, plan, workers, most, source, size, progress)
+    read_text(rt, alloc, plan, workers, most, source, size, progress)
 }
 
 /// The same of a text in which the comma and the plan's separator are exchanged.
-fn read_text<R: Threads + Wait + Sync, S: Source, P: Progress, I: Origin>(
+fn read_text<R: Threads + Wait + Sync, S: Source, P: Progress>(
     rt: &R,
     alloc: Global,
     plan: &Plan,
     workers: u32,
     most: u64,
-    mut source: S,
+    source: &mut S,
     size: usize,
     progress: &mut P,
-) -> (Result<GoodGroups, Stop>, S)
+) -> Result<GoodGroups, Stop>
     requires workers { workers ≤ MOST_WORKERS }
-    requires start { I.start ≡ Some (record { query = plan.now; most = most; from = S.left source }) }
-    ensures groups { IfOk result.0 (λ g. AreGroupsOver (good_way (of_text plan.now.reading) plan.now) plan.now (S.left source) g.groups) }
-    ensures left_out { IfOk result.0 (λ g. IsLeftOut (of_text plan.now.reading) plan.now most (S.left source) g.left_out) }
-    ensures why { IfErr result.0 (Tells (of_text plan.now.reading) plan.now (S.left source)) }
-    ensures read_fault { IfErr result.0 (λ why. why ≡ stop.ReadFault → Rose (S.faults source) (S.faults result.1)) }
-    ensures no_write { IfErr result.0 (λ why. (why ≡ stop.WriteFault) → ⊥) }
+    ensures groups { IfOk result (λ g. AreGroupsOver (good_way (of_text plan.now.reading) plan.now) plan.now (S.left source.old) g.groups) }
+    ensures left_out { IfOk result (λ g. IsLeftOut (of_text plan.now.reading) plan.now most (S.left source.old) g.left_out) }
+    ensures why { IfErr result (Tells (of_text plan.now.reading) plan.now (S.left source.old)) }
+    ensures many { IfErr result (NamesIfNone (of_text plan.now.reading) plan.now most (S.left source.old)) }
+    ensures read_fault { IfErr result (λ why. why ≡ stop.ReadFault → Rose (S.faults source.old) (S.faults source.new)) }
+    ensures no_write { IfErr result (λ why. (why ≡ stop.WriteFault) → ⊥) }
 {
-    let front = match read_front(rt, alloc, plan, &mut source, size) {
-        Ok(front) => front,
-        Err(why) => return (Err(why), source),
-    };
+    let begun = Snapshot::of(source);
     let Front {
         first,
         bound,
         sifting,
-    } = front;
-    let rules = Rules {
+    } = read_front(rt, alloc, plan, source, size)?;
+    let rules = rules_of(plan, &bound, &first, most);
+    let (read, back) = read_rows::<R, S, P, Brand>(
+        rt, alloc, begun, rules, sifting, workers, source, size, progress,
+    );
+    give_back(back);
+    read
+}
+
+/// What the lines after a header are judged by.
+fn rules_of<'a>(plan: &'a Plan, bound: &'a BoundPlan, first: &'a First, most: u64) -> Rules<'a>
+    requires some { 0 < length first.now.header }
+    ensures plan { result.plan.now ≡ plan.now }
+    ensures bound { result.bound.now ≡ bound.now }
+    ensures header { result.header.now ≡ first.now.window.header }
+    ensures width { result.width ≡ length (record_at first.now.header 0) }
+    ensures most { result.most ≡ most }
+{
+    Rules {
         plan,
-        bound: &bound,
+        bound,
         header: first.window.header(),
         width: first.header.width(0),
         most,
-    };
-    read_rows::<R, S, P, I>(rt, alloc, rules, sifting, workers, source, size, progress)
+    }
 }
+
+/// Lets a source go that was lent.
+fn give_back<S>(source: &mut S)
+    ensures { source.new ≡ source.old }
+{}
 
 /// The first window of a source, the plan over its header, and what is sifted after it.
 #[derive(Drop)]
@@ -132,8 +154,11 @@ fn read_front<R: Wait, S: Source>(
     size: usize,
 ) -> Result<Front, Stop>
     ensures bound { IfOk result (λ f. IsBound plan.now (record_at f.first.header 0) f.bound) }
+    ensures one { IfOk result (λ f. records_as plan.now.reading f.first.window.header ≡ record_at f.first.header 0 ∷ []) }
+    ensures some { IfOk result (λ f. 0 < length f.first.header) }
     ensures first { IfOk result (λ f. (o : Opened) (r : Rules) → AreRules o r → o.query ≡ plan.now → o.from ≡ S.left source.old → o.header ≡ record_at f.first.header 0 → r.header.now ≡ f.first.window.header → IsBegunOver o (S.left source.new) r f.sifting) }
     ensures why { IfErr result (Tells (of_text plan.now.reading) plan.now (S.left source.old)) }
+    ensures many { IfErr result (λ why. (most : ℕ) → NamesIfNone (of_text plan.now.reading) plan.now most (S.left source.old) why) }
     ensures read_fault { IfErr result (λ why. why ≡ stop.ReadFault → Rose (S.faults source.old) (S.faults source.new)) }
     ensures faults { S.faults source.old ≤ S.faults source.new }
     ensures no_write { IfErr result (λ why. (why ≡ stop.WriteFault) → ⊥) }
@@ -153,28 +178,32 @@ fn read_front<R: Wait, S: Source>(
     })
 }
 
-/// The same after the header, of which some lines may be there already.
-fn read_rows<R: Threads + Wait + Sync, S: Source, P: Progress, I: Origin>(
+/// The same after the header, of which some lines may be there already, of a source that was so when the reading began. Gives
+/// the source back.
+fn read_rows<'a, R: Threads + Wait + Sync, S: Source, P: Progress, I: Origin>(
     rt: &R,
     alloc: Global,
+    _begun: Snapshot<S>,
     rules: Rules<'_>,
     sifting: Sifting,
     workers: u32,
-    source: S,
+    source: &'a mut S,
     size: usize,
     progress: &mut P,
-) -> (Result<GoodGroups, Stop>, S)
+) -> (Result<GoodGroups, Stop>, &'a mut S)
     requires workers { workers ≤ MOST_WORKERS }
-    requires sieve { IsSieve I.start (S.left source) rules sifting }
+    requires sieve { IsSieve I.start source.ghost_name (S.left source.now) rules sifting }
     requires fresh { sifting.lacks ≡ 0 }
-    ensures over { IfOk result.0 (λ g. AreGroupsOver (of_text rules.entry.plan.now.reading) rules.entry.plan.now (sifting_left rules.entry (S.left source) sifting) g.groups) }
+    ensures same_reference { result.1.ghost_name ≡ source.entry.ghost_name }
+    ensures over { IfOk result.0 (λ g. AreGroupsOver (of_text rules.entry.plan.now.reading) rules.entry.plan.now (sifting_left rules.entry (S.left source.entry.now) sifting) g.groups) }
     ensures left_out { IfOk result.0 (λ g. IfSome I.start (λ s. IsLeftOut (of_text s.query.reading) s.query s.most s.from g.left_out)) }
     ensures why { IfErr result.0 (λ why. IfSome I.start (λ s. Tells (of_text s.query.reading) s.query s.from why)) }
-    ensures read_fault { IfErr result.0 (λ why. why ≡ stop.ReadFault → Rose (S.faults source) (S.faults result.1)) }
+    ensures many { IfErr result.0 (λ why. IfSome I.start (λ s. NamesIfNone (of_text s.query.reading) s.query s.most s.from why)) }
+    ensures read_fault { IfErr result.0 (λ why. why ≡ stop.ReadFault → Rose (S.faults source.entry.now) (S.faults result.1.now)) }
     ensures no_write { IfErr result.0 (λ why. (why ≡ stop.WriteFault) → ⊥) }
 {
     let plan = rules.plan;
-    let mut sieve: Sieve<'_, S, I> = Sieve {
+    let mut sieve: Sieve<'a, '_, S, I> = Sieve {
         source,
         alloc,
         rules,
@@ -203,6 +232,7 @@ fn answer_of(
     ensures ok { OnOk result (OnErr read ⊥) }
     ensures left_out { IfOk result (λ g. (o : Opened) (left : Option (List ℕ)) (r : Rules) → AreRules o r → IsSifting o left r sifting → IsLeftOut (of_text o.query.reading) o.query o.most o.from g.left_out) }
     ensures why { IfErr result (λ why. (o : Opened) (left : Option (List ℕ)) (r : Rules) → AreRules o r → IsSifting o left r sifting → Tells (of_text o.query.reading) o.query o.from why) }
+    ensures many { IfErr result (λ why. (o : Opened) (left : Option (List ℕ)) (r : Rules) → AreRules o r → IsSifting o left r sifting → NamesIfNone (of_text o.query.reading) o.query o.most o.from why) }
     ensures read_fault { IfErr result (λ why. why ≡ stop.ReadFault → (read ≡ Err stop.ReadFault) × ((o : Opened) (left : Option (List ℕ)) (r : Rules) → IsSifting o left r sifting → sifting.lacks ≡ 0)) }
     ensures no_write { IfErr result (λ why. (why ≡ stop.WriteFault) → ⊥) }
 {
@@ -234,10 +264,12 @@ fn begin(alloc: Global, first: &First) -> Result<Sifting, AllocError>
     Ok(sifting_of(line, pending, ahead, first.feeds, false))
 }
 
-/// What was read after the header. The last window has no rest; if one should have one, memory is said to lack.
+/// What was read after the header, whose line ends outside quotes if there is any. The last window has no rest. If either
+/// should not be so, memory is said to lack.
 fn text_after(alloc: Global, first: &First) -> Result<Vec<u8>, AllocError>
     ensures text { IfOk result (λ text. text.items ≡ first.now.window.lines ++ first.now.window.rest) }
     ensures last { OnOk result (first.now.is_last ≡ true → first.now.window.rest ≡ []) }
+    ensures cut { IfOk result (λ text. 0 < length text.items → IsCut first.now.window.header) }
 {
     let rest = first.window.rest();
     if first.is_last && !rest.is_empty() {
@@ -245,7 +277,17 @@ fn text_after(alloc: Global, first: &First) -> Result<Vec<u8>, AllocError>
     }
     let mut text = Vec::from_slice(alloc, first.window.lines())?;
     text.extend_from_slice(rest)?;
+    if !text.is_empty() && !is_cut(first.window.header()) {
+        return Err(AllocError);
+    }
     Ok(text)
+}
+
+/// Whether bytes end outside quotes.
+fn is_cut(bytes: &[u8]) -> bool
+    ensures { result ≡ true → IsCut bytes.now }
+{
+    scanned(without_mark(bytes), Place::Opens) != Place::Quoted
 }
 
 /// A text of which nothing was counted yet, after so many line feeds.

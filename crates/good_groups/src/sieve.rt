@@ -8,8 +8,8 @@ ghost use Rattle.row_windows.specs.declared.window.TheConstants.{MOST_RECORD_BYT
 ghost use Rattle.stream_groups.specs.Stops.{IsStopOfLong, Tells};
 ghost use Rattle.stream_groups.specs.Ways.{of_text};
 ghost use Rattle.stream_groups.specs.declared.stop.Stop.TheVariants as stop;
-ghost use Rattle.good_groups.specs.Counted.{AreRules};
-ghost use Rattle.good_groups.specs.Good.{IsLeftOut};
+ghost use Rattle.good_groups.specs.Counted.{AreRules, HasTooMany};
+ghost use Rattle.good_groups.specs.Good.{IsLeftOut, NamesIfNone};
 ghost use Rattle.good_groups.specs.Opened.{Opened};
 ghost use Rattle.good_groups.specs.Sifting.{GoesOn, IsOpen, IsReady, IsSifting, Sifts, sifter_left, sifting_left};
 ghost use Rattle.good_groups.specs.declared.sifter.Halt.TheVariants as halt;
@@ -39,8 +39,8 @@ pub(crate) struct Sifting {
 
 /// A source after its header, and what was read of it.
 #[derive(Drop)]
-pub(crate) struct Sieve<'b, S: Source, I: Origin> {
-    pub(crate) source: S,
+pub(crate) struct Sieve<'a, 'b, S: Source, I: Origin> {
+    pub(crate) source: &'a mut S,
     pub(crate) alloc: Global,
     pub(crate) rules: Rules<'b>,
     pub(crate) sifting: Sifting,
@@ -131,6 +131,7 @@ impl Sifting {
     /// Why it goes no further.
     pub(crate) fn why(self, alloc: Global) -> Stop
         ensures why { (o : Opened) (left : Option (List ℕ)) (r : Rules) → AreRules o r → IsSifting o left r self → Tells (of_text o.query.reading) o.query o.from result }
+        ensures many { (o : Opened) (left : Option (List ℕ)) (r : Rules) → AreRules o r → IsSifting o left r self → NamesIfNone (of_text o.query.reading) o.query o.most o.from result }
         ensures read_fault { (o : Opened) (left : Option (List ℕ)) (r : Rules) → IsSifting o left r self → result ≡ stop.ReadFault → self.lacks ≡ 0 }
         ensures no_write { (result ≡ stop.WriteFault) → ⊥ }
     {
@@ -215,6 +216,7 @@ fn sift(sifter: &mut Sifter, alloc: Global, rules: &Rules<'_>) -> Result<(), Hal
     ensures sifts { Sifts rules.now sifter.old sifter.new }
     ensures all { OnOk result (sifter.new.pending ≡ []) }
     ensures too_many { result ≡ Err halt.TooMany → is_some sifter.new.tally.first ≡ true }
+    ensures many { result ≡ Err halt.TooMany → (o : Opened) (left : Option (List ℕ)) → AreRules o rules.now → IsOpen o left rules.now sifter.old → HasTooMany o }
     ensures long { result ≡ Err halt.Long → MOST_RECORD_BYTES < length sifter.new.line.items }
 {
     'lines: while !sifter.pending.is_empty() {
@@ -223,19 +225,19 @@ fn sift(sifter: &mut Sifter, alloc: Global, rules: &Rules<'_>) -> Result<(), Hal
     Ok(())
 }
 
-impl<'b, S: Source, I: Origin> Model for Sieve<'b, S, I> {
+impl<'a, 'b, S: Source, I: Origin> Model for Sieve<'a, 'b, S, I> {
     ghost use Rattle.std.specs.Prelude.{◌+◌};
     ghost use Rattle.good_groups.specs.Sieve.{IsSieve, Seen};
     ghost use Rattle.good_groups.specs.Sifting.{sifting_left};
 
     ghost Value = { Seen };
 
-    ghost view = { λ s. record { left = sifting_left s.rules (S.left s.source) s.sifting; faults = S.faults s.source + s.sifting.lacks } };
+    ghost view = { λ s. record { left = sifting_left s.rules (S.left s.source.now) s.sifting; faults = S.faults s.source.now + s.sifting.lacks } };
 
-    ghost invariant = { λ s. IsSieve I.start (S.left s.source) s.rules s.sifting };
+    ghost invariant = { λ s. IsSieve I.start s.source.ghost_name (S.left s.source.now) s.rules s.sifting };
 }
 
-impl<'b, S: Source, I: Origin> Source for Sieve<'b, S, I> {
+impl<'a, 'b, S: Source, I: Origin> Source for Sieve<'a, 'b, S, I> {
     ghost left = { λ s. s.left };
 
     ghost faults = { λ s. s.faults };
@@ -243,6 +245,6 @@ impl<'b, S: Source, I: Origin> Source for Sieve<'b, S, I> {
     /// What is left of the source below.
     fn read(&mut self, buf: &mut [u8]) -> Result<usize, Failed> {
         self.sifting
-            .give(self.alloc, &self.rules, &mut self.source, buf)
+            .give(self.alloc, &self.rules, self.source, buf)
     }
 }

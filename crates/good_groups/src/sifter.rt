@@ -9,8 +9,9 @@ ghost use Rattle.csv_rows.specs.Places.{place_after};
 ghost use Rattle.good_rows.specs.Lines.{IsBegun, ends_here, line_left};
 ghost use Rattle.row_windows.specs.declared.window.TheConstants.{MOST_RECORD_BYTES};
 ghost use Rattle.text_lines.specs.Feeds.{count_feeds};
-ghost use Rattle.good_groups.specs.Counted.{AreOfLine, Counts, CountsNot};
-ghost use Rattle.good_groups.specs.Sifting.{IsReady, Sifts, keeps};
+ghost use Rattle.good_groups.specs.Counted.{AreOfLine, AreRules, Counts, CountsNot, HasTooMany, IsOneTooMany};
+ghost use Rattle.good_groups.specs.Opened.{Opened};
+ghost use Rattle.good_groups.specs.Sifting.{IsOpen, IsReady, Sifts, keeps};
 ghost use Rattle.good_groups.specs.declared.sifter.Halt.TheVariants as halt;
 
 use crate::bytes::Bytes;
@@ -74,6 +75,7 @@ impl Sifter {
         ensures sifts { Sifts rules.now self.old self.new }
         ensures less { OnOk result (length self.new.pending < length self.old.pending) }
         ensures too_many { result ≡ Err halt.TooMany → is_some self.new.tally.first ≡ true }
+        ensures many { result ≡ Err halt.TooMany → (o : Opened) (left : Option (List ℕ)) → AreRules o rules.now → IsOpen o left rules.now self.old → HasTooMany o }
         ensures long { result ≡ Err halt.Long → MOST_RECORD_BYTES < length self.new.line.items }
     {
         let end = line_end(self.pending.left(), self.place);
@@ -119,6 +121,7 @@ impl Sifter {
         ensures not { OnErr result (CountsNot rules.now self.old.line.items self.old.tally self.new.tally) }
         ensures not_feeds { OnErr result (self.new.tally.feeds ≡ self.old.tally.feeds) }
         ensures too_many { result ≡ Err halt.TooMany → is_some self.new.tally.first ≡ true }
+        ensures many { result ≡ Err halt.TooMany → IsOneTooMany rules.now self.old.line.items self.old.tally }
         ensures why { result ≡ Err halt.Long → ⊥ }
     {
         if self.tally.rows >= MOST_ROWS {
@@ -190,6 +193,7 @@ impl Tally {
         ensures some { OnOk result (is_some self.new.first ≡ true) }
         ensures less { OnOk result (self.old.count < rules.now.most) }
         ensures too_many { result ≡ Err halt.TooMany → is_some self.new.first ≡ true }
+        ensures many { result ≡ Err halt.TooMany → IsOneTooMany rules.now line.now self.old }
         ensures why { result ≡ Err halt.Long → ⊥ }
     {
         self.know(alloc, rules, line, why)?;

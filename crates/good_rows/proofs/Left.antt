@@ -2,7 +2,7 @@
 use Rattle.std.proofs.Common.{◌≡◌, ◌≢◌, ◌<◌, ◌≤◌, ◌+◌, ◌-◌, ◌++◌, ◌∷◌, ◌∙◌, [], Bool, ℕ, List, true, false, ap, append-nil, append_assoc, arith, drop, inl, inr, length, length-append, map, refl, subst, sym, take}
 use Rattle.std.specs.Prelude.{◌==◌, ◌||◌, if◌then◌else◌, slice_index}
 use Rattle.std.specs.List.{list_all}
-use Rattle.std.proofs.lemmas.Bool.{cases_Bool, eqb-true}
+use Rattle.std.proofs.lemmas.Bool.{cases_Bool, cases_lt, eqb-true}
 use Rattle.std.proofs.lemmas.List.{drop_more, get_or_append_left, map-append, take-append-le, take_all, take_more}
 use Rattle.std.proofs.lemmas.List.Elements.{filter-append}
 use Rattle.csv_rows.specs.Cuts.{IsCut, ends_quoted}
@@ -17,9 +17,9 @@ use Rattle.csv_rows.proofs.Follows.{scan-cut}
 use Rattle.csv_rows.proofs.Scans.{place-append}
 use Rattle.par_model.specs.Plan.{Plan}
 use Rattle.row_blocks.specs.Blocks.{Table}
-use Rattle.row_windows.specs.Ends.{AllEnd, NoneBehind}
+use Rattle.row_windows.specs.Ends.{NoneBehind, NoneBelow}
 use Rattle.row_windows.specs.Seams.{BeginsLine, is_line_end}
-use Rattle.row_windows.proofs.InFront.{few-whole, none-more}
+use Rattle.row_windows.proofs.InFront.{few-whole}
 use Rattle.row_windows.proofs.Seams.{records_add_up}
 use Rattle.text_lines.proofs.Ends.{only_ends}
 use Rattle.text_lines.proofs.Parts.{after_line, no_mark}
@@ -55,9 +55,16 @@ begins_one c more line = record { some = omega arith; is = line }
 begun_cut : (line : List ℕ) (p : Place) → BeginsLine line → p ≡ place_after place.Opens line → p ≢ place.Quoted → IsCut line
 begun_cut line p begins is apart = ap ends_quoted (no_mark line begins) ∙ scan-cut line (λ quoted. apart (is ∙ quoted))
 
+-- after the first byte each end of a line is between quotes
+behind_first : (line : List ℕ) (n : ℕ) → NoneBelow line n → NoneBehind line n
+behind_first line n none = λ at below is. elim (cases_lt 0 at) [
+  | inl some ↦ inl (none at some below is)
+  | inr first ↦ inr (λ k low. absurd (omega (arith, first, low)))
+]
+
 -- it has one record at most, if it is one line
 pub begun_few : (line : List ℕ) (p : Place) → IsBegun line p → length (records_of line) ≤ 1
-begun_few line p b = few-whole line (subst (λ (t : List ℕ). NoneBehind t (length t)) (sym (no_mark line b.begins)) b.one)
+begun_few line p b = few-whole line (subst (λ (t : List ℕ). NoneBehind t (length t)) (sym (no_mark line b.begins)) (behind_first line (length line) b.one))
 
 -- the end of a line has no record
 only_end : (c : ℕ) → is_line_end c ≡ true → records_of (c ∷ []) ≡ []
@@ -72,20 +79,13 @@ only_end_as reading c line = ap (map (map (as_read reading))) (only_end c line)
 pub begun_one : (p : Place) (c : ℕ) → is_line_end c ≡ true → p ≢ place.Quoted → IsBegun (c ∷ []) (place_after p (c ∷ []))
 begun_one p c line apart = record {
   begins = begins_one c [] line;
-  one = λ at low is. inr (λ k below. absurd (omega (arith, low, below)));
+  one = λ at some low is. absurd (omega (arith, some, low));
   place = after_line p c [] apart line;
 }
 
-all_longer : (line more : List ℕ) (n : ℕ) → n ≤ length line → AllEnd line n → AllEnd (line ++ more) n
-all_longer line more n within all = λ at below. ap is_line_end (get_or_append_left line more 0 at (omega (arith, below, within))) ∙ all at below
-
-none_longer : (line more : List ℕ) → NoneBehind line (length line) → NoneBehind (line ++ more) (length line)
-none_longer line more none = λ at low is.
-    let here = none at low (ap is_line_end (sym (get_or_append_left line more 0 at low)) ∙ is) in
-    elim here [
-      | inl quoted ↦ inl (ap (place_after place.Opens) (take-append-le at line more (omega (arith, low))) ∙ quoted)
-      | inr all ↦ inr (all_longer line more at (omega (arith, low)) all)
-    ]
+none_longer : (line more : List ℕ) → NoneBelow line (length line) → NoneBelow (line ++ more) (length line)
+none_longer line more none = λ at some low is.
+    ap (place_after place.Opens) (take-append-le at line more (omega (arith, low))) ∙ none at some low (ap is_line_end (sym (get_or_append_left line more 0 at low)) ∙ is)
 
 at_end : (line : List ℕ) (c : ℕ) → slice_index (line ++ c ∷ []) (length line) ≡ c
 at_end [] c = refl
@@ -102,9 +102,13 @@ begun_more line p c b goes = record {
   one =
       let size : length (line ++ c ∷ []) ≡ length line + 1 = length-append line (c ∷ []) in
       let same = take-append-le (length line) line (c ∷ []) (omega arith) ∙ take_all (length line) line (omega arith) in
-      subst (NoneBehind (line ++ c ∷ [])) (sym size)
-      (none-more (line ++ c ∷ []) (length line) (none_longer line (c ∷ []) b.one)
-      (λ is. inl (ap (place_after place.Opens) same ∙ (sym b.place ∙ goes_cases p c goes (ap is_line_end (sym (at_end line c)) ∙ is)))));
+      λ at some low is. elim (cases_lt at (length line)) [
+        | inl below ↦ none_longer line (c ∷ []) b.one at some below is
+        | inr above ↦
+            let last : at ≡ length line = omega (arith, above, low, size) in
+            ap (λ (k : ℕ). place_after place.Opens (take k (line ++ c ∷ []))) last ∙ ap (place_after place.Opens) same
+            ∙ (sym b.place ∙ goes_cases p c goes (ap is_line_end (sym (at_end line c) ∙ ap (slice_index (line ++ c ∷ [])) (sym last)) ∙ is))
+      ];
   place = ap (λ (q : Place). place_after q (c ∷ [])) b.place ∙ sym (place-append place.Opens line (c ∷ []));
 }
 

@@ -6,7 +6,7 @@ use Rattle.csv_rows.specs.declared.cleaning.Reading.{Reading}
 use Rattle.csv_rows.specs.declared.place.Place.{Place}
 use Rattle.csv_rows.specs.declared.place.Place.TheVariants as place
 use Rattle.par_model.specs.Plan.{Plan}
-use Rattle.row_windows.specs.Ends.{NoneBehind}
+use Rattle.row_windows.specs.Ends.{NoneBelow}
 use Rattle.row_windows.specs.Seams.{BeginsLine, is_line_end}
 use Rattle.good_rows.specs.Good.{good_rows, has_good}
 
@@ -29,7 +29,7 @@ left_of keeps p line (c ∷ rest) =
 -- these bytes are the beginning of one line, after the end of the line before it, and a scan is at this place behind them
 pub record IsBegun (line : List ℕ) (p : Place) : Type 0 where
   pub begins : BeginsLine line
-  pub one : NoneBehind line (length line)
+  pub one : NoneBelow line (length line)
   pub place : p ≡ place_after place.Opens line
 
 -- the law: of bytes whose lines are left out if they have a refused row, the records are the rows that are not refused

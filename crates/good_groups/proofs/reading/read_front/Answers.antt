@@ -1,4 +1,5 @@
-use Rattle.std.proofs.Common.{◌≡◌, ◌≤◌, ◌<◌, ◌+◌, ◌^◌, ◌∙◌, ◌∷◌, [], IfSome, List, ℕ, Option, Some, ap, arith, length, rules, subst, sym}
+use Rattle.std.proofs.Common.{◌≡◌, ◌≤◌, ◌<◌, ◌+◌, ◌^◌, ◌∙◌, ◌∷◌, [], Err, IfErr, IfSome, Result, List, ℕ, Option, Some, ap, arith, length, rules, subst, sym}
+use Rattle.csv_rows.specs.Readings.{records_as}
 use Rattle.csv_rows.specs.Records.{record_at}
 use Rattle.csv_rows.specs.declared.cleaning.Reading.{Reading}
 use Rattle.plan_spec.specs.Query.{Query}
@@ -9,10 +10,15 @@ use Rattle.stream_groups.specs.Reading.{Begins, HasPart, Reaches}
 use Rattle.stream_groups.specs.Stops.{Tells}
 use Rattle.stream_groups.specs.Taken.{Gives}
 use Rattle.stream_groups.specs.Ways.{of_text}
+use Rattle.stream_groups.specs.declared.stop.Stop.{Stop}
 use Rattle.stream_groups.specs.declared.taken.Taken.{Taken}
 use Rattle.stream_groups.specs.declared.taken.Taken.TheVariants as taken
 use Rattle.stream_groups.proofs.Refusals.{begins, missing_tells}
+use Rattle.good_groups.specs.Good.{NamesIfNone}
+use Rattle.good_groups.specs.declared.reading.Front.{Front}
 use Rattle.good_groups.proofs.Begins.{known_of}
+use Rattle.good_groups.proofs.Early.{names_none}
+use Rattle.good_groups.proofs.Rows.{alone}
 use Rattle.good_groups.proofs.reading.read_front.Goals as goal
 
 pub returns-in_err-first-clause-why : goal.returns-in_err-first-clause-why
@@ -61,3 +67,18 @@ returns-clause-first g c = λ o r are query from header line.
       end = is.end;
       known = subst (λ (x : Option (List ℕ)). IfSome x (λ bytes. (rest : List ℕ) × (new ≡ Some rest))) (sym from) (known_of old new gives.2 gives.3);
     })
+
+pub returns-in_err-first-clause-many : goal.returns-in_err-first-clause-many
+returns-in_err-first-clause-many g c =
+    let from = g.S.Source.left c.args.source.now in
+    let why = c.in_err-first.field-0.0 in
+    let reading = c.args.plan.now.reading in
+    let is : c.from_residual.result ≡ Err why = search rules in
+    subst (λ (x : Result Front Stop). IfErr x (λ s. (most : ℕ) → NamesIfNone (of_text reading) c.args.plan.now most from s)) (sym is)
+    (λ most first refused. names_none reading from why (λ query. subst (λ (r : Reading). Tells (of_text r) query from why) c.reading.ensures.value (c.in_err-first.ensures.why query)) _ first refused)
+
+pub returns-clause-one : goal.returns-clause-one
+returns-clause-one g c =
+    let f = c.in_ok-first.first in
+    let is = c.in_ok-first.ensures in
+    ap (λ (r : Reading). records_as r f.window.header) (sym (is.reading ∙ c.reading.ensures.value)) ∙ is.header.line ∙ alone f.header is.header.one

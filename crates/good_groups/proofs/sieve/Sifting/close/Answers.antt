@@ -18,4 +18,5 @@ returns-in-Err-clause-goes c = λ o left end are.
     let is = c.in-Err.ensures in
     let keeps = keeps_same _ _ (sifts_same r s n is.same is.err left) in
     let opens = λ (before : IsOpen o left r s). not_counted r s n is.same is.not_feeds o left before (is.not o _ before.rows [] are (next_end r s c.requires.none o left end before) before.counted) in
-    halted_goes o r left left self c.requires.going n c.in-Err.halt c.stop.new.self c.stop.ensures.same keeps opens (λ e. is.too_many (ap Err e)) (λ e. absurd (is.why (ap Err e)))
+    halted_goes o r left left self c.requires.going n c.in-Err.halt c.stop.new.self c.stop.ensures.same keeps opens (λ e. is.too_many (ap Err e))
+    (λ e (before : IsOpen o left r s). is.many (ap Err e) o _ before.rows [] are (next_end r s c.requires.none o left end before) before.counted) (λ e. absurd (is.why (ap Err e)))

@@ -22,7 +22,8 @@ returns-in-Err-clause-goes g c = λ o are.
     let new = g.S.Source.left c.refill.new.source in
     let keeps = subst (Keeps (sifter_left r old s.sifter)) (c.in-Err.ensures.sifts.left new) (c.in_ok-refill.ensures.left r) in
     halted_goes o r old new s c.requires.going c.sift.new.sifter c.in-Err.halt c.stop-in-Err.new.self c.stop-in-Err.ensures.same keeps
-    (λ (before : IsOpen o old r s.sifter). c.in-Err.ensures.sifts.counts o new are (c.in_ok-refill.ensures.counts r o before)) (λ e. c.in-Err.ensures.too_many (ap Err e)) (λ e. c.in-Err.ensures.long (ap Err e))
+    (λ (before : IsOpen o old r s.sifter). c.in-Err.ensures.sifts.counts o new are (c.in_ok-refill.ensures.counts r o before)) (λ e. c.in-Err.ensures.too_many (ap Err e))
+    (λ e (before : IsOpen o old r s.sifter). c.in-Err.ensures.many (ap Err e) o new are (c.in_ok-refill.ensures.counts r o before)) (λ e. c.in-Err.ensures.long (ap Err e))
 
 pub returns-then-not-branch-clause-goes : goal.returns-then-not-branch-clause-goes
 returns-then-not-branch-clause-goes g c = λ o are.

@@ -1,19 +1,22 @@
-use Rattle.std.proofs.Common.{rules, ◌≡◌, ◌<◌, ◌+◌, ◌⊎◌, [], ℕ, List, Option, Err, IfErr, IfOk, IsErr, OnOk, Some, false, is_some, length, true, ◌-◌, ◌*◌, ◌≤◌, ◌/◌, ◌%◌, Bool, nat_eq, nat_lt, ◌∷◌, ◌++◌, slice_index_or, slice_set, bit_and, bit_or, Fits, w8, w32, w64, Bor, MutBor}
-use Rattle.std.specs.Io.{ReadsAtMost}
-use Rattle.std.specs.Io.KnownBytes.{IsAtEnd, ReadConsumes}
-use Rattle.par_io.specs.Faults.{HasCause, one_more}
-use Rattle.row_windows.specs.declared.window.TheConstants.{MOST_RECORD_BYTES}
-use Rattle.stream_groups.specs.Stops.{IsStopOfLong, Tells}
-use Rattle.stream_groups.specs.Ways.{of_text}
+use Rattle.std.proofs.Common.{◌≡◌, ◌+◌, ◌⊎◌, List, ℕ, Some, rules, subst}
+use Rattle.stream_groups.specs.Stops.{IsStopOfLong}
 use Rattle.stream_groups.specs.declared.stop.Stop.TheVariants as stop
-use Rattle.good_groups.specs.Counted.{AreRules}
-use Rattle.good_groups.specs.Good.{IsLeftOut}
-use Rattle.good_groups.specs.Opened.{Opened}
-use Rattle.good_groups.specs.Sifting.{GoesOn, IsReady, IsSifting, Sifts, sifting_left}
+use Rattle.good_groups.specs.Sifting.{IsHalted}
 use Rattle.good_groups.specs.declared.sifter.Halt.TheVariants as halt
-use Rattle.good_groups.specs.declared.sifter.Rules.{Rules}
+use Rattle.good_groups.proofs.Long.{long_after, long_tells}
 use Rattle.good_groups.proofs.sieve.Sifting.why.Goals as goal
 
--- src/sieve.rt:131:5
+pub returns-in-Some-first-clause-many : goal.returns-in-Some-first-clause-many
+returns-in-Some-first-clause-many c = λ o left r are is first e.
+    let s = c.args.self in
+    let halt_is : s.halt ≡ Some halt.Long = search rules in
+    let halted = subst (λ h. IsHalted o h s) halt_is is.halted in
+    long_after o r left s.sifter are (is.going halted.0) halted.1
+
 pub returns-clause-why : goal.returns-clause-why
-returns-clause-why c = ?
+returns-clause-why c = λ o left r are is.
+    let s = c.args.self in
+    let halt_is : s.halt ≡ Some halt.Long = search rules in
+    let halted = subst (λ h. IsHalted o h s) halt_is is.halted in
+    long_tells o r left s.sifter are (is.going halted.0) halted.1 c.in-None-first-2.is c.long_stop.result
+    (subst (λ (t : List ℕ). IsStopOfLong (s.sifter.tally.rows + 1) s.sifter.tally.feeds t c.long_stop.result ⊎ (c.long_stop.result ≡ stop.Memory)) c.as_slice.ensures.value c.long_stop.ensures)
