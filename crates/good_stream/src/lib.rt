@@ -33,7 +33,7 @@ use stream_groups::read_words;
 
 /// Answers the query of these words as `stream_table` of `par_stream` does, but leaves out the rows that are refused, if there
 /// are at most `most` of them: the table is that of the other rows, and `err` is told how many were left out and which is the
-/// first. Gives the source back.
+/// first.
 ///
 /// Time and memory are those of `stream_table`. Each line is looked at once more, by the caller's thread.
 pub fn good_table<R: Threads + Wait + Sync, S: Source, O: Sink, E: Sink, P: Progress>(
@@ -41,44 +41,43 @@ pub fn good_table<R: Threads + Wait + Sync, S: Source, O: Sink, E: Sink, P: Prog
     alloc: Global,
     words: &[String],
     most: u64,
-    source: Separated<S>,
+    source: &mut Separated<S>,
     out: &mut O,
     err: &mut E,
     window_bytes: usize,
     progress: &mut P,
-) -> (u8, Separated<S>)
+) -> u8
     // On every status but that of a table there is a reason: it is one that the query has if no row is left out, or a write of
     // the table failed. The status is the reason's, and so is the line that `err` receives, or a prefix of it if a write of it
     // failed.
-    ensures why { (result.0 ≢ TABLE) → (why : Stop) × TellsOfGood (stream_query_of (texts words.now)) (bare_left S.left source) why × (result.0 ≡ (stop_says why).0)
+    ensures why { (result ≢ TABLE) → (why : Stop) × TellsOfGood (stream_query_of (texts words.now)) (bare_left S.left source.old) why × (result ≡ (stop_says why).0)
         × IsSaid (E.taken err.old) (E.taken err.new) (E.faults err.old) (E.faults err.new) (line (stop_says why).1) }
-    ensures read_fault { result.0 ≡ READ_FAULT → Rose (bare_faults S.faults source) (bare_faults S.faults result.1) }
-    ensures write_fault { result.0 ≡ WRITE_FAULT → Rose (O.faults out.old) (O.faults out.new) }
+    ensures read_fault { result ≡ READ_FAULT → Rose (bare_faults S.faults source.old) (bare_faults S.faults source.new) }
+    ensures write_fault { result ≡ WRITE_FAULT → Rose (O.faults out.old) (O.faults out.new) }
 
     // With a table, `err` receives the line that says what was left out, or a prefix of it if a write of it failed, and nothing
     // if no row was.
-    ensures told { result.0 ≡ TABLE → (left_out : Option LeftOut) × LeavesOut most (stream_query_of (texts words.now)) (bare_left S.left source) left_out
+    ensures told { result ≡ TABLE → (left_out : Option LeftOut) × LeavesOut most (stream_query_of (texts words.now)) (bare_left S.left source.old) left_out
         × IfSome left_out (λ rows. IsSaid (E.taken err.old) (E.taken err.new) (E.faults err.old) (E.faults err.new) (line (left_out_text rows)))
         × (left_out ≡ None → err.new ≡ err.old) }
 
     // `out` receives the table of the other rows, or a prefix of it if a write failed, and on every other status nothing.
-    ensures table { result.0 ≡ TABLE → IfSome (bare_left S.left source) (λ bytes.
+    ensures table { result ≡ TABLE → IfSome (bare_left S.left source.old) (λ bytes.
         (text : List ℕ) × IsGoodText most (stream_query_of (texts words.now)) bytes text × Appends (O.taken out.old) (O.taken out.new) text) }
-    ensures part { result.0 ≡ WRITE_FAULT → IfSome (bare_left S.left source) (λ bytes.
+    ensures part { result ≡ WRITE_FAULT → IfSome (bare_left S.left source.old) (λ bytes.
         (text : List ℕ) × IsGoodText most (stream_query_of (texts words.now)) bytes text × (n : ℕ) × Appends (O.taken out.old) (O.taken out.new) (take n text)) }
-    ensures nothing { (result.0 ≢ TABLE) → (result.0 ≢ WRITE_FAULT) → out.new ≡ out.old }
+    ensures nothing { (result ≢ TABLE) → (result ≢ WRITE_FAULT) → out.new ≡ out.old }
 
     // Words that are no query are answered before anything is read.
-    ensures unread { IsNone (stream_query_of (texts words.now)) → result.1 ≡ source }
+    ensures unread { IsNone (stream_query_of (texts words.now)) → source.new ≡ source.old }
 {
-    let (answer, source) = answer_good(rt, alloc, words, most, source, out, window_bytes, progress);
-    match answer {
-        Ok(None) => (TABLE, source),
+    match answer_good(rt, alloc, words, most, source, out, window_bytes, progress) {
+        Ok(None) => TABLE,
         Ok(Some(left_out)) => {
             say_left_out(&left_out, err);
-            (TABLE, source)
+            TABLE
         }
-        Err(stop) => (stop.end(err), source),
+        Err(stop) => stop.end(err),
     }
 }
 
@@ -88,29 +87,26 @@ fn answer_good<R: Threads + Wait + Sync, S: Source, O: Sink, P: Progress>(
     alloc: Global,
     words: &[String],
     most: u64,
-    source: Separated<S>,
+    source: &mut Separated<S>,
     out: &mut O,
     window_bytes: usize,
     progress: &mut P,
-) -> (Result<Option<LeftOut>, Stop>, Separated<S>)
-    ensures left_out { IfOk result.0 (LeavesOut most (stream_query_of (texts words.now)) (bare_left S.left source)) }
-    ensures table { OnOk result.0 (IfSome (bare_left S.left source) (λ bytes.
+) -> Result<Option<LeftOut>, Stop>
+    ensures left_out { IfOk result (LeavesOut most (stream_query_of (texts words.now)) (bare_left S.left source.old)) }
+    ensures table { OnOk result (IfSome (bare_left S.left source.old) (λ bytes.
         (text : List ℕ) × IsGoodText most (stream_query_of (texts words.now)) bytes text × Appends (O.taken out.old) (O.taken out.new) text)) }
-    ensures part { IfErr result.0 (λ why. why ≡ stop.WriteFault → IfSome (bare_left S.left source) (λ bytes.
+    ensures part { IfErr result (λ why. why ≡ stop.WriteFault → IfSome (bare_left S.left source.old) (λ bytes.
         (text : List ℕ) × IsGoodText most (stream_query_of (texts words.now)) bytes text × (n : ℕ) × Appends (O.taken out.old) (O.taken out.new) (take n text))) }
-    ensures nothing { IfErr result.0 (λ why. (why ≢ stop.WriteFault) → out.new ≡ out.old) }
-    ensures why { IfErr result.0 (TellsOfGood (stream_query_of (texts words.now)) (bare_left S.left source)) }
-    ensures read_fault { IfErr result.0 (λ why. why ≡ stop.ReadFault → Rose (bare_faults S.faults source) (bare_faults S.faults result.1)) }
-    ensures write_fault { IfErr result.0 (λ why. why ≡ stop.WriteFault → Rose (O.faults out.old) (O.faults out.new)) }
-    ensures some { OnOk result.0 (IsNone (stream_query_of (texts words.now)) → ⊥) }
-    ensures unread { IsNone (stream_query_of (texts words.now)) → result.1 ≡ source }
+    ensures nothing { IfErr result (λ why. (why ≢ stop.WriteFault) → out.new ≡ out.old) }
+    ensures why { IfErr result (TellsOfGood (stream_query_of (texts words.now)) (bare_left S.left source.old)) }
+    ensures read_fault { IfErr result (λ why. why ≡ stop.ReadFault → Rose (bare_faults S.faults source.old) (bare_faults S.faults source.new)) }
+    ensures write_fault { IfErr result (λ why. why ≡ stop.WriteFault → Rose (O.faults out.old) (O.faults out.new)) }
+    ensures some { OnOk result (IsNone (stream_query_of (texts words.now)) → ⊥) }
+    ensures unread { IsNone (stream_query_of (texts words.now)) → source.new ≡ source.old }
 {
-    let plan = match read_words(alloc, words) {
-        Ok(plan) => plan,
-        Err(stop) => return (Err(stop), source),
-    };
+    let plan = read_words(alloc, words)?;
     let workers = plan.workers();
-    let (read, source) = read_good(
+    let read = read_good(
         rt,
         alloc,
         &plan,
@@ -121,12 +117,7 @@ fn answer_good<R: Threads + Wait + Sync, S: Source, O: Sink, P: Progress>(
         progress,
     );
     progress.end();
-    let GoodGroups { groups, left_out } = match read {
-        Ok(good) => good,
-        Err(stop) => return (Err(stop), source),
-    };
-    match write_table(rt, alloc, &plan, groups, out) {
-        Ok(()) => (Ok(left_out), source),
-        Err(stop) => (Err(stop), source),
-    }
+    let GoodGroups { groups, left_out } = read?;
+    write_table(rt, alloc, &plan, groups, out)?;
+    Ok(left_out)
 }

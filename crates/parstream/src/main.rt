@@ -102,8 +102,8 @@ fn main(rt: HostRuntime) -> ExitCode {
         return ExitCode::from(NO_MEMORY);
     };
     let mut progress = ProgressLine::new(&rt, rt.stderr());
-    if skip_of(&taken) == 0 {
-        let status = shown_table(
+    let status = if skip_of(&taken) == 0 {
+        shown_table(
             &rt,
             rt.alloc(),
             &taken,
@@ -112,18 +112,18 @@ fn main(rt: HostRuntime) -> ExitCode {
             &mut err,
             WINDOW_BYTES,
             &mut progress,
-        );
-        return ExitCode::from(status);
-    }
-    let (status, _) = shown_good(
-        &rt,
-        rt.alloc(),
-        &taken,
-        source,
-        &mut out,
-        &mut err,
-        WINDOW_BYTES,
-        &mut progress,
-    );
+        )
+    } else {
+        shown_good(
+            &rt,
+            rt.alloc(),
+            &taken,
+            &mut source,
+            &mut out,
+            &mut err,
+            WINDOW_BYTES,
+            &mut progress,
+        )
+    };
     ExitCode::from(status)
 }

@@ -41,45 +41,45 @@ pub fn skip_of(taken: &Taken<'_>) -> u64
 
 /// Answers the query of the words that are left, as [`shown_table`](crate::shown_table) does, but leaves out the rows that are
 /// refused, if there are at most as many of them as the options allow; after the table a line says how many were left out, and
-/// which is the first. Gives the source back.
+/// which is the first.
 ///
 /// Time and memory are those of `shown_table`. Each line of the input is looked at once more, by the caller's thread.
 pub fn shown_good<R: Threads + Wait + Sync, S: Source, O: Sink, E: Sink, P: Progress>(
     rt: &R,
     alloc: Global,
     taken: &Taken<'_>,
-    source: Separated<S>,
+    source: &mut Separated<S>,
     out: &mut O,
     err: &mut E,
     window_bytes: usize,
     progress: &mut P,
-) -> (u8, Separated<S>)
+) -> u8
     // If an option is wrong, nothing is read or written, and the line says how, or that memory ran out.
-    ensures wrong { IfErr (how_in (taken_as taken.now)) (λ text. (result.1 ≡ source) × (out.new ≡ out.old)
-        × SaysWrong text result.0 (E.taken err.old) (E.taken err.new) (E.faults err.old) (E.faults err.new)) }
+    ensures wrong { IfErr (how_in (taken_as taken.now)) (λ text. (source.new ≡ source.old) × (out.new ≡ out.old)
+        × SaysWrong text result (E.taken err.old) (E.taken err.new) (E.faults err.old) (E.faults err.new)) }
 
     // Otherwise, on every status but that of a table, the reason, the status and the line are some that the query has if no row
     // is left out, or a write of the table failed.
-    ensures why { (result.0 ≢ TABLE) → IfOk (how_in (taken_as taken.now)) (λ _. (why : Stop) × TellsOfGood (stream_query_of (taken_as taken.now).rest) (bare_left S.left source) why × (result.0 ≡ (stop_says why).0)
+    ensures why { (result ≢ TABLE) → IfOk (how_in (taken_as taken.now)) (λ _. (why : Stop) × TellsOfGood (stream_query_of (taken_as taken.now).rest) (bare_left S.left source.old) why × (result ≡ (stop_says why).0)
         × IsSaid (E.taken err.old) (E.taken err.new) (E.faults err.old) (E.faults err.new) (line (stop_says why).1)) }
-    ensures read_fault { result.0 ≡ READ_FAULT → Rose (bare_faults S.faults source) (bare_faults S.faults result.1) }
-    ensures write_fault { result.0 ≡ WRITE_FAULT → Rose (O.faults out.old) (O.faults out.new) }
+    ensures read_fault { result ≡ READ_FAULT → Rose (bare_faults S.faults source.old) (bare_faults S.faults source.new) }
+    ensures write_fault { result ≡ WRITE_FAULT → Rose (O.faults out.old) (O.faults out.new) }
 
     // With a table, `err` receives the line that says what was left out, or a prefix of it if a write of it failed, and nothing
     // if no row was.
-    ensures told { result.0 ≡ TABLE → (left_out : Option LeftOut) × LeavesOut (skip_in (taken_as taken.now)) (stream_query_of (taken_as taken.now).rest) (bare_left S.left source) left_out
+    ensures told { result ≡ TABLE → (left_out : Option LeftOut) × LeavesOut (skip_in (taken_as taken.now)) (stream_query_of (taken_as taken.now).rest) (bare_left S.left source.old) left_out
         × SaysLeftOut left_out (E.taken err.old) (E.taken err.new) (E.faults err.old) (E.faults err.new) × (left_out ≡ None → err.new ≡ err.old) }
 
     // `out` receives what is shown of the table of the other rows, or a prefix of it if a write failed, and on every other
     // status nothing.
-    ensures table { result.0 ≡ TABLE → (how : How) × (how_in (taken_as taken.now) ≡ Ok how) × IfSome (bare_left S.left source) (λ bytes.
+    ensures table { result ≡ TABLE → (how : How) × (how_in (taken_as taken.now) ≡ Ok how) × IfSome (bare_left S.left source.old) (λ bytes.
         (text : List ℕ) × IsGoodShownOf (skip_in (taken_as taken.now)) how (stream_query_of (taken_as taken.now).rest) bytes text × Appends (O.taken out.old) (O.taken out.new) text) }
-    ensures part { result.0 ≡ WRITE_FAULT → (how : How) × (how_in (taken_as taken.now) ≡ Ok how) × IfSome (bare_left S.left source) (λ bytes.
+    ensures part { result ≡ WRITE_FAULT → (how : How) × (how_in (taken_as taken.now) ≡ Ok how) × IfSome (bare_left S.left source.old) (λ bytes.
         (text : List ℕ) × IsGoodShownOf (skip_in (taken_as taken.now)) how (stream_query_of (taken_as taken.now).rest) bytes text × (n : ℕ) × Appends (O.taken out.old) (O.taken out.new) (take n text)) }
-    ensures nothing { (result.0 ≢ TABLE) → (result.0 ≢ WRITE_FAULT) → out.new ≡ out.old }
+    ensures nothing { (result ≢ TABLE) → (result ≢ WRITE_FAULT) → out.new ≡ out.old }
 
     // Words that are no query are answered before anything is read.
-    ensures unread { IsNone (stream_query_of (taken_as taken.now).rest) → result.1 ≡ source }
+    ensures unread { IsNone (stream_query_of (taken_as taken.now).rest) → source.new ≡ source.old }
 {
     match how_of(alloc, taken) {
         Ok(Ok(how)) => show_good(
@@ -94,8 +94,8 @@ pub fn shown_good<R: Threads + Wait + Sync, S: Source, O: Sink, E: Sink, P: Prog
             window_bytes,
             progress,
         ),
-        Ok(Err(text)) => (say_wrong(err, text.as_str()), source),
-        Err(AllocError) => (say_memory(err), source),
+        Ok(Err(text)) => say_wrong(err, text.as_str()),
+        Err(AllocError) => say_memory(err),
     }
 }
 
@@ -107,32 +107,32 @@ fn show_good<R: Threads + Wait + Sync, S: Source, O: Sink, E: Sink, P: Progress>
     words: &[String],
     most: u64,
     how: How,
-    source: Separated<S>,
+    source: &mut Separated<S>,
     out: &mut O,
     err: &mut E,
     window_bytes: usize,
     progress: &mut P,
-) -> (u8, Separated<S>)
-    ensures why { (result.0 ≢ TABLE) → (why : Stop) × TellsOfGood (stream_query_of (texts words.now)) (bare_left S.left source) why × (result.0 ≡ (stop_says why).0)
+) -> u8
+    ensures why { (result ≢ TABLE) → (why : Stop) × TellsOfGood (stream_query_of (texts words.now)) (bare_left S.left source.old) why × (result ≡ (stop_says why).0)
         × IsSaid (E.taken err.old) (E.taken err.new) (E.faults err.old) (E.faults err.new) (line (stop_says why).1) }
-    ensures read_fault { result.0 ≡ READ_FAULT → Rose (bare_faults S.faults source) (bare_faults S.faults result.1) }
-    ensures write_fault { result.0 ≡ WRITE_FAULT → Rose (O.faults out.old) (O.faults out.new) }
-    ensures told { result.0 ≡ TABLE → (left_out : Option LeftOut) × LeavesOut most (stream_query_of (texts words.now)) (bare_left S.left source) left_out
+    ensures read_fault { result ≡ READ_FAULT → Rose (bare_faults S.faults source.old) (bare_faults S.faults source.new) }
+    ensures write_fault { result ≡ WRITE_FAULT → Rose (O.faults out.old) (O.faults out.new) }
+    ensures told { result ≡ TABLE → (left_out : Option LeftOut) × LeavesOut most (stream_query_of (texts words.now)) (bare_left S.left source.old) left_out
         × SaysLeftOut left_out (E.taken err.old) (E.taken err.new) (E.faults err.old) (E.faults err.new) × (left_out ≡ None → err.new ≡ err.old) }
-    ensures table { result.0 ≡ TABLE → IfSome (bare_left S.left source) (λ bytes.
+    ensures table { result ≡ TABLE → IfSome (bare_left S.left source.old) (λ bytes.
         (text : List ℕ) × IsGoodShownOf most how (stream_query_of (texts words.now)) bytes text × Appends (O.taken out.old) (O.taken out.new) text) }
-    ensures part { result.0 ≡ WRITE_FAULT → IfSome (bare_left S.left source) (λ bytes.
+    ensures part { result ≡ WRITE_FAULT → IfSome (bare_left S.left source.old) (λ bytes.
         (text : List ℕ) × IsGoodShownOf most how (stream_query_of (texts words.now)) bytes text × (n : ℕ) × Appends (O.taken out.old) (O.taken out.new) (take n text)) }
-    ensures nothing { (result.0 ≢ TABLE) → (result.0 ≢ WRITE_FAULT) → out.new ≡ out.old }
-    ensures unread { IsNone (stream_query_of (texts words.now)) → result.1 ≡ source }
+    ensures nothing { (result ≢ TABLE) → (result ≢ WRITE_FAULT) → out.new ≡ out.old }
+    ensures unread { IsNone (stream_query_of (texts words.now)) → source.new ≡ source.old }
 {
     // Words that are no query have no table that could not be written.
     if let Err(stop) = read_words(alloc, words) {
-        return (stop.end(err), source);
+        return stop.end(err);
     }
     let mut table = Text::new(alloc);
     let mut said = Text::new(alloc);
-    let (status, source) = good_table(
+    let status = good_table(
         rt,
         alloc,
         words,
@@ -143,8 +143,7 @@ fn show_good<R: Threads + Wait + Sync, S: Source, O: Sink, E: Sink, P: Progress>
         window_bytes,
         progress,
     );
-    let ends = end_good(alloc, status, &table, &said, how, out, err);
-    (ends, source)
+    end_good(alloc, status, &table, &said, how, out, err)
 }
 
 /// Ends a query whose table and whose line were kept in memory: writes what is shown of the table, and then the line, or only

@@ -125,13 +125,13 @@ fn answered<R: Threads + Wait + Sync>(
     let words = words_of(alloc, words)?;
     let mut out = sink(alloc)?;
     let mut err = sink(alloc)?;
-    let source = Separated::new(source_of(alloc, input.as_bytes())?);
-    let (status, _) = good_table(
+    let mut source = Separated::new(source_of(alloc, input.as_bytes())?);
+    let status = good_table(
         rt,
         alloc,
         words.as_slice(),
         most,
-        source,
+        &mut source,
         &mut out,
         &mut err,
         size,

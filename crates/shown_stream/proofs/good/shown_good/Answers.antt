@@ -46,7 +46,7 @@ returns-in-Err-clause-wrong g c =
 pub returns-in-Err-clause-why : goal.returns-in-Err-clause-why
 returns-in-Err-clause-why g c = λ _.
     ok_each _ (how_in (taken_as c.args.taken.now))
-    (λ how. (stop.Memory, good_memory (stream_query_of (taken_as c.args.taken.now).rest) (bare_left g.S.Source.left c.args.source), c.say_memory.ensures.status, c.say_memory.ensures.said))
+    (λ how. (stop.Memory, good_memory (stream_query_of (taken_as c.args.taken.now).rest) (bare_left g.S.Source.left c.args.source.now), c.say_memory.ensures.status, c.say_memory.ensures.said))
 
 pub returns-in-Ok-Ok-clause-told : goal.returns-in-Ok-Ok-clause-told
 returns-in-Ok-Ok-clause-told g c = λ is. rw (c.as_slice.ensures.value, c.skip_of.ensures) at c.show_good.ensures.told is
