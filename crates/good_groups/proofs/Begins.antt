@@ -1,5 +1,5 @@
 -- What there is after the header.
-use Rattle.std.proofs.Common.{◌≡◌, ◌≢◌, ◌⊎◌, inl, inr, ◌<◌, ◌≤◌, ◌+◌, ◌++◌, ◌^◌, ◌∙◌, ℕ, Bool, true, false, List, [], ◌∷◌, Option, None, Some, IfSome, ap, append-nil, append_assoc, arith, get_or, length, length-append, refl, subst, sym}
+use Rattle.std.proofs.Common.{◌≡◌, inl, inr, ◌<◌, ◌≤◌, ◌+◌, ◌++◌, ◌∙◌, ℕ, Bool, true, false, List, [], ◌∷◌, Option, None, Some, IfSome, ap, append-nil, append_assoc, arith, get_or, length, length-append, refl, subst, sym}
 use Rattle.std.specs.Prelude.{◌==◌, if◌then◌else◌, option_map, slice_index}
 use Rattle.std.proofs.lemmas.Bool.{cases_Bool, cases_lt, eqb-true}
 use Rattle.std.specs.Io.KnownBytes.{Consumes, IsAtEnd, prepend_known}
@@ -25,7 +25,7 @@ use Rattle.good_rows.specs.Lines.{IsBegun, ends_here, left_of, line_left}
 use Rattle.good_rows.proofs.Left.{begins_one, begun_one, rows_left}
 use Rattle.stream_groups.specs.Begins.{BeginsOrNone}
 use Rattle.stream_groups.specs.declared.filling.First.{First}
-use Rattle.stream_groups.specs.Reading.{ArePart, AreRead, HasAll, HasPart, HasRead}
+use Rattle.stream_groups.specs.Reading.{HasAll, HasPart, HasRead}
 use Rattle.stream_groups.proofs.ReadAs.{as_add_up, none_as}
 use Rattle.good_groups.specs.Begun.{IsBegunOver, IsFirstOf}
 use Rattle.good_groups.specs.Counted.{AreRules, HasCounted}

@@ -1,8 +1,7 @@
 -- What was counted of rows, with one row more.
-use Rattle.std.proofs.Common.{◌≡◌, ◌<◌, ◌≤◌, ◌+◌, ◌++◌, ◌^◌, ◌∙◌, ℕ, List, [], ◌∷◌, All, None, Option, Some, true, false, ap, append-nil, arith, length, length-append, map, refl, subst, sym}
+use Rattle.std.proofs.Common.{◌≡◌, ◌<◌, ◌+◌, ◌++◌, ◌^◌, ◌∙◌, ℕ, List, [], ◌∷◌, All, None, Option, Some, true, false, ap, append-nil, arith, length, length-append, map, refl, subst, sym}
 use Rattle.std.specs.Prelude.{is_some, option_map}
 use Rattle.std.specs.List.{cons_option, enumerate_from, filter_map}
-use Rattle.std.proofs.lemmas.List.{length-map}
 use Rattle.std.proofs.lemmas.List.Elements.{All-cons, All-nil, filter_map-append}
 use Rattle.par_model.specs.Plan.{Plan}
 use Rattle.par_model.specs.Refuse.{numbered_refusal, refusal, refused_rows}

@@ -1,18 +1,18 @@
 -- Before the header is known no row is named: a reason that is told of each query is told of one whose columns the header lacks.
-use Rattle.std.proofs.Common.{◌≡◌, ◌<◌, ◌≤◌, ◌+◌, ◌++◌, ◌∙◌, ◌∷◌, [], ℕ, Bool, List, Option, None, Some, IfSome, ap, arith, false, inl, inr, length, length-append, refl, subst, sym, true}
-use Rattle.std.specs.Prelude.{bytes_eq, is_none}
+use Rattle.std.proofs.Common.{◌≡◌, ◌<◌, ◌+◌, ◌++◌, ◌∷◌, [], ℕ, List, Option, None, Some, IfSome, ap, arith, false, inl, inr, length, length-append, refl, subst}
+use Rattle.std.specs.Prelude.{bytes_eq}
 use Rattle.std.specs.List.{position_from}
 use Rattle.std.proofs.lemmas.Bool.{cases_Bool}
 use Rattle.std.proofs.lemmas.Slice.Eq.{bytes_eq-Decides}
 use Rattle.csv_rows.specs.Readings.{plain, records_as}
 use Rattle.csv_rows.specs.Records.{record_at}
 use Rattle.csv_rows.specs.declared.cleaning.Reading.{Reading}
-use Rattle.par_model.specs.Named.{NamedPlan, missing_name}
-use Rattle.par_model.specs.Outcome.{NoColumn, Outcome, Refused}
+use Rattle.par_model.specs.Named.{missing_name}
+use Rattle.par_model.specs.Outcome.{NoColumn, Refused}
 use Rattle.par_model.specs.declared.refusal.Refusal.{Refusal}
 use Rattle.plan_spec.specs.Query.{Query}
 use Rattle.row_blocks.specs.Blocks.{Table}
-use Rattle.stream_groups.specs.Outcome.{outcome, outcome_over}
+use Rattle.stream_groups.specs.Outcome.{outcome}
 use Rattle.stream_groups.specs.Stops.{Tells}
 use Rattle.stream_groups.specs.Ways.{of_text}
 use Rattle.stream_groups.specs.declared.stop.RefusedRow.{RefusedRow}

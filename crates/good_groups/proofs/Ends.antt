@@ -1,19 +1,16 @@
 -- What was left out of all rows, and that there are too many.
-use Rattle.std.proofs.Common.{◌≡◌, ◌<◌, ◌≤◌, ◌+◌, ◌++◌, ◌∙◌, ℕ, List, [], ◌∷◌, Option, None, Some, IfSome, ap, arith, length, length-append, map, refl, subst, sym}
+use Rattle.std.proofs.Common.{◌≡◌, ◌<◌, ◌≤◌, ◌++◌, ◌∙◌, ℕ, List, [], ◌∷◌, Option, None, Some, IfSome, ap, arith, length, length-append, map, refl, subst, sym}
 use Rattle.csv_rows.specs.Readings.{records_as}
 use Rattle.par_model.specs.Plan.{Plan}
 use Rattle.par_model.specs.Refuse.{refusal, refused_rows}
 use Rattle.par_model.specs.declared.refusal.Refusal.{Refusal}
 use Rattle.row_blocks.specs.Blocks.{Table}
 use Rattle.stream_groups.specs.Reading.{Begins, HasAll}
-use Rattle.stream_groups.specs.Stops.{Tells}
 use Rattle.stream_groups.specs.Ways.{of_text}
 use Rattle.stream_groups.specs.declared.stop.RefusedRow.{RefusedRow}
-use Rattle.stream_groups.specs.declared.stop.Stop.TheVariants as stop
 use Rattle.good_groups.specs.Counted.{AreRules, HasCounted, HasTooMany, IsFirst}
 use Rattle.good_groups.specs.Good.{IsLeftOut, refused_records}
 use Rattle.good_groups.specs.Opened.{Opened}
-use Rattle.good_groups.specs.declared.reading.LeftOut.{LeftOut}
 use Rattle.good_groups.specs.declared.sifter.Rules.{Rules}
 use Rattle.good_groups.specs.declared.tally.Tally.{Tally}
 use Rattle.good_groups.proofs.Counting.{later_by, refused_apart, refused_some}

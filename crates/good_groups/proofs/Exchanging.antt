@@ -1,22 +1,20 @@
 -- What was found of the rows that are not refused, in bytes in which the comma and the separator were exchanged, said of the
 -- bytes of the input.
-use Rattle.std.proofs.Common.{◌≡◌, ◌<◌, ◌≤◌, ◌++◌, ◌∷◌, ◌∙◌, ◌⊎◌, inl, inr, [], ℕ, List, None, Option, Some, IfSome, ap, length, map, subst, sym}
+use Rattle.std.proofs.Common.{◌≡◌, ◌<◌, ◌++◌, ◌∷◌, ◌∙◌, inl, inr, [], ℕ, List, None, Option, Some, IfSome, ap, length, map, subst, sym}
 use Rattle.std.specs.Prelude.{option_map}
 use Rattle.std.proofs.lemmas.List.{map-append}
 use Rattle.csv_rows.specs.Readings.{IsSeparator, exchanged, records_as, records_in}
 use Rattle.csv_rows.proofs.Exchanges.{reads-exchanged, twice-all}
-use Rattle.par_model.specs.declared.refusal.Refusal.{Refusal}
 use Rattle.plan_spec.specs.Query.{Query}
 use Rattle.row_blocks.specs.Blocks.{Table}
 use Rattle.row_windows.specs.Seams.{IsLong}
 use Rattle.stream_groups.specs.Reading.{AreGroupsOver}
 use Rattle.stream_groups.specs.Ways.{of_bytes, of_text}
 use Rattle.stream_groups.specs.declared.reading.ReadGroups.{ReadGroups}
-use Rattle.stream_groups.specs.declared.stop.RefusedRow.{RefusedRow}
 use Rattle.stream_groups.specs.declared.stop.Stop.{Stop}
 use Rattle.stream_groups.specs.declared.stop.Stop.TheVariants as stop
 use Rattle.stream_groups.proofs.Exchanged.{tells_of_bytes}
-use Rattle.good_groups.specs.Good.{HasLongAfter, IsLeftOut, NamesIfNone, good_records, good_way, refused_records}
+use Rattle.good_groups.specs.Good.{HasLongAfter, HasNoTable, IsLeftOut, NamesIfNone, good_records, good_way, refused_records}
 use Rattle.good_groups.specs.declared.reading.LeftOut.{LeftOut}
 
 module _ (query : Query) (is : IsSeparator query.reading.separator) where
@@ -86,8 +84,8 @@ module _ (query : Query) (is : IsSeparator query.reading.separator) where
   pub none_of_bytes : (most : ℕ) (left : Option (List ℕ)) (why : Stop) → NamesIfNone (of_text query.reading) query most (option_map (map swap) left) why → NamesIfNone (of_bytes query.reading) query most left why
   none_of_bytes most left why names = λ first is. go left (names first is)
     where
-      go : (left : Option (List ℕ)) → IfSome (option_map (map swap) left) (λ bytes. (most < length (refused_records query (records_as query.reading bytes))) ⊎ HasLongAfter (of_text query.reading) query most bytes)
-          → IfSome left (λ bytes. (most < length (refused_records query (records_in query.reading bytes))) ⊎ HasLongAfter (of_bytes query.reading) query most bytes)
+      go : (left : Option (List ℕ)) → IfSome (option_map (map swap) left) (HasNoTable (of_text query.reading) query most)
+          → IfSome left (HasNoTable (of_bytes query.reading) query most)
       go None t = tt
       go (Some bytes) (inl many) = inl (subst (λ (l : Table). most < length (refused_records query l)) (same_records bytes) many)
       go (Some bytes) (inr long) = inr (has_long most bytes long)

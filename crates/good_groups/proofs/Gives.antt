@@ -1,16 +1,15 @@
 -- What a text that is being sifted gives.
-use Rattle.std.proofs.Common.{◌≡◌, ◌<◌, ◌≤◌, ◌+◌, ◌++◌, ◌∙◌, ◌⊎◌, inl, inr, ℕ, Bool, true, false, List, [], ◌∷◌, Option, None, Some, ap, append_assoc, arith, length, min, refl, subst, sym, take}
+use Rattle.std.proofs.Common.{◌≡◌, ◌++◌, ◌∙◌, inl, inr, ℕ, Bool, true, List, [], Option, None, Some, ap, append_assoc, refl, subst, sym}
 use Rattle.std.specs.Prelude.{if◌then◌else◌, option_map}
 use Rattle.std.specs.Io.KnownBytes.{Consumes, IsAtEnd, Keeps, prepend_known}
 use Rattle.std.proofs.lemmas.Bool.{cases_Bool}
 use Rattle.par_io.specs.Faults.{one_more}
 use Rattle.good_groups.specs.Opened.{Opened}
-use Rattle.good_groups.specs.Sifting.{GoesOn, IsHalted, IsOpen, IsSifting, rest_left, sifter_left, sifting_left}
+use Rattle.good_groups.specs.Sifting.{GoesOn, IsHalted, IsSifting, rest_left, sifting_left}
 use Rattle.good_groups.specs.declared.sieve.Sifting.{Sifting}
 use Rattle.good_groups.specs.declared.sifter.Halt.{Halt}
 use Rattle.good_groups.specs.declared.sifter.Halt.TheVariants as halt
 use Rattle.good_groups.specs.declared.sifter.Rules.{Rules}
-use Rattle.good_groups.specs.declared.sifter.Sifter.{Sifter}
 
 prepends : (ahead ahead' bytes : List ℕ) (left : Option (List ℕ)) → ahead ≡ bytes ++ ahead' → Consumes (prepend_known ahead left) (prepend_known ahead' left) bytes
 prepends ahead ahead' bytes None is = tt

@@ -1,18 +1,14 @@
 -- A line that is too long.
-use Rattle.std.proofs.Common.{◌≡◌, ◌<◌, ◌≤◌, ◌+◌, ◌++◌, ◌∙◌, ◌⊎◌, inl, inr, ℕ, List, [], ◌∷◌, Option, None, Some, IfSome, ap, append-nil, arith, length, refl, subst, sym}
+use Rattle.std.proofs.Common.{◌≡◌, ◌<◌, ◌+◌, ◌⊎◌, inr, ℕ, List, [], ◌∷◌, Option, None, Some, IfSome, ap, append-nil, arith, length, refl, subst, sym}
 use Rattle.std.specs.Io.KnownBytes.{Consumes, prepend_known}
-use Rattle.csv_rows.specs.declared.cleaning.Reading.{Reading}
-use Rattle.par_model.specs.Outcome.{Table as IsTable}
 use Rattle.par_model.specs.Plan.{Plan}
 use Rattle.par_model.specs.Refuse.{refused_rows}
-use Rattle.row_blocks.specs.Blocks.{Table}
 use Rattle.row_windows.specs.Seams.{IsLong, NoCut}
 use Rattle.row_windows.specs.Stretch.{IsLongWindow, Stretch}
 use Rattle.row_windows.specs.declared.window.TheConstants.{MOST_RECORD_BYTES}
 use Rattle.row_windows.specs.declared.window.WindowAnswer.TheVariants as window
 use Rattle.row_windows.proofs.Cuts.{no-cut}
 use Rattle.text_lines.proofs.Parts.{no_mark}
-use Rattle.stream_groups.specs.Outcome.{outcome}
 use Rattle.stream_groups.specs.Reading.{HasRead}
 use Rattle.stream_groups.specs.Stops.{IsStopOfLong, Tells}
 use Rattle.stream_groups.specs.Ways.{of_text}
@@ -20,9 +16,8 @@ use Rattle.stream_groups.specs.declared.stop.Stop.{Stop}
 use Rattle.stream_groups.specs.declared.stop.Stop.TheVariants as stop
 use Rattle.stream_groups.proofs.Refusals.{accepted_table}
 use Rattle.stream_groups.proofs.Windows.{window_tells}
-use Rattle.csv_rows.specs.Readings.{records_as}
 use Rattle.good_groups.specs.Counted.{AreRules, IsFirst}
-use Rattle.good_groups.specs.Good.{HasLongAfter, refused_records}
+use Rattle.good_groups.specs.Good.{HasNoTable, refused_records}
 use Rattle.good_groups.specs.Opened.{Opened}
 use Rattle.good_groups.specs.Sifting.{IsOpen}
 use Rattle.good_groups.specs.declared.sifter.Rules.{Rules}
@@ -38,14 +33,14 @@ module _ (o : Opened) (r : Rules) (left : Option (List ℕ)) (s : Sifter) (are :
   is_long = record { long = long; no_cut = subst NoCut (sym (no_mark s.line.items is.begun.begins)) (no-cut s.line.items is.begun.one) }
 
   -- after the rows that were counted a record is too long
-  pub long_after : IfSome o.from (λ bytes. (o.most < length (refused_records o.query (records_as o.query.reading bytes))) ⊎ HasLongAfter (of_text o.query.reading) o.query o.most bytes)
+  pub long_after : IfSome o.from (HasNoTable (of_text o.query.reading) o.query o.most)
   long_after = go o.from (prepend_known s.pending left) is.read
     where
       same : refused_records o.query (o.header ∷ is.rows) ≡ refused_rows r.bound.now (length o.header) is.rows
       same = ap (λ (p : Plan). refused_rows p (length o.header) is.rows) (sym are.bound.is)
 
       go : (from old : Option (List ℕ)) → HasRead o.query.reading from old (o.header ∷ is.rows) s.tally.feeds s.line.items
-          → IfSome from (λ bytes. (o.most < length (refused_records o.query (records_as o.query.reading bytes))) ⊎ HasLongAfter (of_text o.query.reading) o.query o.most bytes)
+          → IfSome from (HasNoTable (of_text o.query.reading) o.query o.most)
       go None old read = tt
       go (Some bytes) None read = absurd read
       go (Some bytes) (Some back) read = inr (record {

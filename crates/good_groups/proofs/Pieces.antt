@@ -1,6 +1,6 @@
 -- What is left of a piece.
-use Rattle.std.proofs.Common.{◌≡◌, ◌≤◌, ◌<◌, ◌+◌, ◌-◌, ◌∙◌, ℕ, List, ap, arith, drop, length, length-take, min, sym, take}
-use Rattle.std.proofs.lemmas.List.{drop-drop, drop-take, length-drop}
+use Rattle.std.proofs.Common.{◌≡◌, ◌≤◌, ◌+◌, ◌-◌, ◌∙◌, ℕ, List, ap, arith, drop, length, length-take, sym, take}
+use Rattle.std.proofs.lemmas.List.{drop-drop, drop-take}
 
 pub skipped : (from upto count : ℕ) (bytes : List ℕ) → from ≤ upto → count ≤ length (take (upto - from) (drop from bytes)) → take (upto - (from + count)) (drop (from + count) bytes) ≡ drop count (take (upto - from) (drop from bytes))
 skipped from upto count bytes low few =

@@ -1,11 +1,10 @@
 -- What is said of the row of a line.
-use Rattle.std.proofs.Common.{◌≡◌, ◌⊎◌, inl, inr, ◌<◌, ◌≤◌, ◌+◌, ◌-◌, ◌++◌, ◌^◌, ◌∙◌, ℕ, Bool, true, false, List, [], ◌∷◌, All, Option, None, Some, ap, append-nil, arith, drop, length, map, refl, string_bytes, subst, sym, take}
+use Rattle.std.proofs.Common.{◌≡◌, inl, inr, ◌+◌, ◌++◌, ◌∙◌, ℕ, Bool, true, List, [], ◌∷◌, Option, Some, ap, append-nil, arith, drop, length, map, refl, string_bytes, subst, sym}
 use Rattle.std.specs.Prelude.{◌==◌}
 use Rattle.std.proofs.lemmas.List.Elements.{All-cons, All-nil}
 use Rattle.csv_rows.specs.Cuts.{IsCut}
 use Rattle.csv_rows.specs.Readings.{IsSeparator, exchanged, records_as, records_in}
 use Rattle.csv_rows.specs.Records.{record_at}
-use Rattle.par_model.specs.Plan.{Plan}
 use Rattle.par_model.specs.Refuse.{refusal, refused_rows}
 use Rattle.par_model.specs.declared.refusal.Refusal.{Refusal}
 use Rattle.partial_agg.specs.Rows.{IsAccepted}
@@ -20,7 +19,7 @@ use Rattle.text_lines.proofs.Counts.{count_none}
 use Rattle.stream_groups.specs.Begins.{IsLined, IsPlaceIn}
 use Rattle.stream_groups.specs.Reading.{Begins}
 use Rattle.stream_groups.specs.Said.{row_says}
-use Rattle.stream_groups.specs.Stops.{AreOfRow, IsHeaderLine, SaysOfRow, Tells}
+use Rattle.stream_groups.specs.Stops.{AreOfRow, Tells}
 use Rattle.stream_groups.specs.Ways.{of_text}
 use Rattle.stream_groups.specs.declared.place.Place.{Place}
 use Rattle.stream_groups.specs.declared.stop.RefusedRow.{RefusedRow}

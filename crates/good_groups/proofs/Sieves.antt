@@ -1,9 +1,8 @@
 -- What a sieve tells of the reading that began, and how it begins.
-use Rattle.std.proofs.Common.{◌≡◌, ◌∷◌, ◌∙◌, [], ℕ, List, None, Option, Some, IfSome, length, refl, subst, sym}
+use Rattle.std.proofs.Common.{◌≡◌, ◌∷◌, ◌∙◌, [], ℕ, List, None, Option, Some, IfSome, length, subst, sym}
 use Rattle.std.specs.Borrow.{GName}
 use Rattle.csv_rows.specs.Readings.{records_as}
 use Rattle.plan_spec.specs.Query.{Query}
-use Rattle.row_blocks.specs.Blocks.{Table}
 use Rattle.stream_groups.specs.Reading.{AreGroupsOver, IsBound}
 use Rattle.stream_groups.specs.Ways.{of_text}
 use Rattle.stream_groups.specs.declared.reading.ReadGroups.{ReadGroups}

@@ -1,5 +1,5 @@
 -- What a sifter is after a line went on or ended.
-use Rattle.std.proofs.Common.{◌≡◌, ◌≢◌, ◌⊎◌, inl, inr, ◌<◌, ◌≤◌, ◌+◌, ◌++◌, ◌^◌, ◌∙◌, ℕ, Bool, true, false, List, [], ◌∷◌, Option, None, Some, IfSome, ap, append-nil, arith, drop, length, length-drop, refl, subst, suc, sym, take, zero}
+use Rattle.std.proofs.Common.{◌≡◌, ◌⊎◌, inl, inr, ◌<◌, ◌≤◌, ◌+◌, ◌++◌, ◌^◌, ◌∙◌, ℕ, Bool, true, false, List, [], ◌∷◌, Option, None, Some, IfSome, ap, append-nil, arith, drop, length, length-drop, refl, subst, suc, sym, take, zero}
 use Rattle.std.specs.Prelude.{◌==◌, if◌then◌else◌, option_map, slice_index}
 use Rattle.std.proofs.lemmas.List.{get_or-drop}
 use Rattle.std.specs.List.{list_all}
@@ -8,10 +8,8 @@ use Rattle.csv_rows.specs.Cuts.{IsCut}
 use Rattle.csv_rows.specs.Places.{place_after}
 use Rattle.csv_rows.specs.Readings.{records_as}
 use Rattle.csv_rows.specs.declared.place.Place.{Place}
-use Rattle.csv_rows.specs.declared.place.Place.TheVariants as place
 use Rattle.par_model.specs.Refuse.{refusal}
 use Rattle.par_model.specs.declared.refusal.Refusal.{Refusal}
-use Rattle.row_blocks.specs.Blocks.{Table}
 use Rattle.row_windows.specs.Seams.{BeginsLine, is_line_end}
 use Rattle.text_lines.specs.Feeds.{count_feeds}
 use Rattle.good_rows.specs.Good.{is_good}

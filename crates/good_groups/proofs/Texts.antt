@@ -1,5 +1,5 @@
 -- What is left of a text, and what was read of it, as a line goes on and ends.
-use Rattle.std.proofs.Common.{◌≡◌, ◌≢◌, ◌⊎◌, inl, inr, ◌<◌, ◌≤◌, ◌+◌, ◌++◌, ◌∙◌, ℕ, Bool, true, false, List, [], ◌∷◌, All, Option, None, Some, IfSome, ap, append-nil, append_assoc, arith, cond, drop, length, refl, subst, sym, take, take-append-drop}
+use Rattle.std.proofs.Common.{◌≡◌, ◌≢◌, ◌⊎◌, inl, inr, ◌+◌, ◌++◌, ◌∙◌, ℕ, Bool, true, false, List, [], ◌∷◌, Option, None, Some, IfSome, ap, append-nil, append_assoc, arith, drop, refl, subst, sym, take, take-append-drop}
 use Rattle.std.specs.Prelude.{option_map}
 use Rattle.std.specs.Io.KnownBytes.{Consumes, IsAtEnd, prepend_known}
 use Rattle.std.proofs.lemmas.List.Elements.{All-cons, All-nil}
@@ -11,15 +11,14 @@ use Rattle.csv_rows.specs.declared.place.Place.{Place}
 use Rattle.csv_rows.specs.declared.place.Place.TheVariants as place
 use Rattle.csv_rows.proofs.Follows.{scan-cut}
 use Rattle.row_blocks.specs.Blocks.{Table}
-use Rattle.row_windows.specs.Seams.{BeginsLine, IsSeam, is_line_end}
+use Rattle.row_windows.specs.Seams.{BeginsLine, is_line_end}
 use Rattle.row_windows.specs.Stretch.{Fills, Stretch}
 use Rattle.text_lines.specs.Feeds.{count_feeds}
 use Rattle.text_lines.proofs.Parts.{no_mark}
 use Rattle.good_rows.specs.Judging.{GoesOn}
 use Rattle.good_rows.specs.Lines.{IsBegun, ends_here, left_of, line_left}
 use Rattle.good_rows.proofs.Left.{begins_one}
-use Rattle.stream_groups.specs.Begins.{AllCut, AreCut, lines_of}
-use Rattle.stream_groups.specs.Reading.{ArePart, Begins, HasPart, HasRead}
+use Rattle.stream_groups.specs.Reading.{Begins, HasPart, HasRead}
 use Rattle.stream_groups.proofs.ReadAs.{as_add_up}
 use Rattle.stream_groups.proofs.Windows.{begins_longer, filled}
 

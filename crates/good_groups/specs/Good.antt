@@ -1,5 +1,5 @@
 -- The good rows of the bytes of an input.
-use Rattle.std.specs.Prelude.{◌≡◌, ◌<◌, ◌≤◌, ◌+◌, ◌++◌, ◌⊎◌, [], ◌∷◌, ℕ, List, None, Option, Some, IfSome, length}
+use Rattle.std.specs.Prelude.{◌≡◌, ◌<◌, ◌≤◌, ◌++◌, ◌⊎◌, [], ◌∷◌, ℕ, List, None, Option, IfSome, length}
 use Rattle.par_model.specs.Named.{bound_plan}
 use Rattle.par_model.specs.Refuse.{refused_rows}
 use Rattle.par_model.specs.declared.refusal.Refusal.{Refusal}
@@ -45,7 +45,10 @@ pub record HasLongAfter (way : Way) (query : Query) (most : ℕ) (bytes : List �
   pub few : length (refused_records query before) ≤ most
   pub long : IsLong (way.text begun)
 
--- a reason names a row only if there is no table without the refused rows: there are more of them than this, or a record is too
--- long
+-- bytes have no table of the good rows: more rows than this are refused, or a record is too long
+abbrev pub HasNoTable : Way → Query → ℕ → List ℕ → Type 0
+HasNoTable way query most bytes = (most < length (refused_records query (way.records bytes))) ⊎ HasLongAfter way query most bytes
+
+-- a reason names a row only if there is none
 abbrev pub NamesIfNone : Way → Query → ℕ → Option (List ℕ) → Stop → Type 0
-NamesIfNone way query most from why = (first : RefusedRow) → why ≡ stop.Refused first → IfSome from (λ bytes. (most < length (refused_records query (way.records bytes))) ⊎ HasLongAfter way query most bytes)
+NamesIfNone way query most from why = (first : RefusedRow) → why ≡ stop.Refused first → IfSome from (HasNoTable way query most)

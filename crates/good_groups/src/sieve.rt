@@ -244,7 +244,6 @@ impl<'a, 'b, S: Source, I: Origin> Source for Sieve<'a, 'b, S, I> {
 
     /// What is left of the source below.
     fn read(&mut self, buf: &mut [u8]) -> Result<usize, Failed> {
-        self.sifting
-            .give(self.alloc, &self.rules, self.source, buf)
+        self.sifting.give(self.alloc, &self.rules, self.source, buf)
     }
 }

@@ -7,7 +7,7 @@ use Rattle.stream_groups.specs.Stops.{Tells}
 use Rattle.stream_groups.specs.Ways.{of_bytes}
 use Rattle.stream_groups.specs.declared.stop.Stop.{Stop}
 use Rattle.stream_groups.specs.declared.stop.Stop.TheVariants as stop
-use Rattle.good_groups.specs.Good.{IsLeftOut, good_way, refused_records}
+use Rattle.good_groups.specs.Good.{HasNoTable, IsLeftOut, good_way, refused_records}
 use Rattle.good_groups.specs.declared.reading.LeftOut.{LeftOut}
 
 -- a query is asked for, at most so many rows of the bytes are refused, and a text is that of the table of the others
@@ -22,6 +22,12 @@ pub record LeavesOut (most : ℕ) (asked : Option Query) (left : Option (List �
   pub query : Query
   pub is : asked ≡ Some query
   pub out : IsLeftOut (of_bytes query.reading) query most left rows
+
+-- a query is asked for, and bytes have no table of the rows that it does not refuse, if so many rows may be left out
+pub record HasNoGoodText (most : ℕ) (asked : Option Query) (bytes : List ℕ) : Type 0 where
+  pub query : Query
+  pub is : asked ≡ Some query
+  pub none : HasNoTable (of_bytes query.reading) query most bytes
 
 -- what a reason says of what words ask for: nothing is asked, or a write failed, or it says what it does if no row is left out
 abbrev pub TellsOfGood : Option Query → Option (List ℕ) → Stop → Type 0

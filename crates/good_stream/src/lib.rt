@@ -14,17 +14,20 @@ ghost use Rattle.plan_spec.specs.Query.{stream_query_of};
 ghost use Rattle.stream_groups.specs.Lines.{line};
 ghost use Rattle.stream_groups.specs.Sources.{bare_faults, bare_left};
 ghost use Rattle.stream_groups.specs.Stops.{stop_says};
+ghost use Rattle.stream_groups.specs.declared.stop.RefusedRow.{RefusedRow};
 ghost use Rattle.stream_groups.specs.declared.stop.Stop.{Stop};
 ghost use Rattle.stream_groups.specs.declared.stop.Stop.TheVariants as stop;
 ghost use Rattle.good_groups.specs.declared.reading.LeftOut.{LeftOut};
-ghost use Rattle.good_stream.specs.Good.{IsGoodText, LeavesOut, TellsOfGood};
+ghost use Rattle.good_stream.specs.Good.{HasNoGoodText, IsGoodText, LeavesOut, TellsOfGood};
 ghost use Rattle.good_stream.specs.Said.{left_out_text};
 
 mod said;
 
 use good_groups::{GoodGroups, LeftOut, read_good};
 use par_io::{Sink, Source};
-use par_stream::{Progress, READ_FAULT, Separated, Stop, TABLE, WRITE_FAULT, write_table};
+use par_stream::{
+    Progress, READ_FAULT, REFUSED, Separated, Stop, TABLE, WRITE_FAULT, write_table,
+};
 use said::say_left_out;
 use std::alloc::Global;
 use std::sync::Wait;
@@ -52,6 +55,8 @@ pub fn good_table<R: Threads + Wait + Sync, S: Source, O: Sink, E: Sink, P: Prog
     // failed.
     ensures why { (result ≢ TABLE) → (why : Stop) × TellsOfGood (stream_query_of (texts words.now)) (bare_left S.left source.old) why × (result ≡ (stop_says why).0)
         × IsSaid (E.taken err.old) (E.taken err.new) (E.faults err.old) (E.faults err.new) (line (stop_says why).1) }
+    // A row is named only if more of them are refused than may be left out, or a record is too long.
+    ensures many { result ≡ REFUSED → IfSome (bare_left S.left source.old) (HasNoGoodText most (stream_query_of (texts words.now))) }
     ensures read_fault { result ≡ READ_FAULT → Rose (bare_faults S.faults source.old) (bare_faults S.faults source.new) }
     ensures write_fault { result ≡ WRITE_FAULT → Rose (O.faults out.old) (O.faults out.new) }
 
@@ -99,6 +104,7 @@ fn answer_good<R: Threads + Wait + Sync, S: Source, O: Sink, P: Progress>(
         (text : List ℕ) × IsGoodText most (stream_query_of (texts words.now)) bytes text × (n : ℕ) × Appends (O.taken out.old) (O.taken out.new) (take n text))) }
     ensures nothing { IfErr result (λ why. (why ≢ stop.WriteFault) → out.new ≡ out.old) }
     ensures why { IfErr result (TellsOfGood (stream_query_of (texts words.now)) (bare_left S.left source.old)) }
+    ensures many { IfErr result (λ why. (first : RefusedRow) → why ≡ stop.Refused first → IfSome (bare_left S.left source.old) (HasNoGoodText most (stream_query_of (texts words.now)))) }
     ensures read_fault { IfErr result (λ why. why ≡ stop.ReadFault → Rose (bare_faults S.faults source.old) (bare_faults S.faults source.new)) }
     ensures write_fault { IfErr result (λ why. why ≡ stop.WriteFault → Rose (O.faults out.old) (O.faults out.new)) }
     ensures some { OnOk result (IsNone (stream_query_of (texts words.now)) → ⊥) }

@@ -1,4 +1,4 @@
-use Rattle.std.proofs.Common.{◌≡◌, ◌<◌, ◌≤◌, ◌++◌, ◌∷◌, ◌∙◌, [], List, ℕ, None, ap, arith, drop, length, refl, rules, slice_index, subst, sym}
+use Rattle.std.proofs.Common.{◌<◌, ◌≤◌, ◌++◌, ◌∷◌, ◌∙◌, [], List, ℕ, ap, drop, length, rules, slice_index, subst, sym}
 use Rattle.csv_rows.specs.Cuts.{IsCut}
 use Rattle.good_groups.specs.declared.sieve.Sifting.{Sifting}
 use Rattle.good_groups.proofs.Begins.{first_default, line_begun, none_begun, nothing}

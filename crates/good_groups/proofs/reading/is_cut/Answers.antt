@@ -1,4 +1,4 @@
-use Rattle.std.proofs.Common.{rules, ◌≡◌, ◌≢◌, ◌∙◌, ap, subst, sym}
+use Rattle.std.proofs.Common.{rules, ◌≢◌, ◌∙◌, ap, sym}
 use Rattle.csv_rows.specs.declared.place.Place.TheVariants as place
 use Rattle.csv_rows.specs.Cuts.{ends_quoted}
 use Rattle.csv_rows.proofs.Follows.{scan-cut}

@@ -1,4 +1,4 @@
-use Rattle.std.proofs.Common.{◌≡◌, ◌≤◌, ◌<◌, ◌+◌, ◌^◌, ◌∙◌, ◌∷◌, [], Err, IfErr, IfSome, Result, List, ℕ, Option, Some, ap, arith, length, rules, subst, sym}
+use Rattle.std.proofs.Common.{◌≡◌, ◌+◌, ◌∙◌, ◌∷◌, [], Err, IfErr, IfSome, Result, List, ℕ, Option, Some, ap, arith, rules, subst, sym}
 use Rattle.csv_rows.specs.Readings.{records_as}
 use Rattle.csv_rows.specs.Records.{record_at}
 use Rattle.csv_rows.specs.declared.cleaning.Reading.{Reading}
@@ -11,7 +11,6 @@ use Rattle.stream_groups.specs.Stops.{Tells}
 use Rattle.stream_groups.specs.Taken.{Gives}
 use Rattle.stream_groups.specs.Ways.{of_text}
 use Rattle.stream_groups.specs.declared.stop.Stop.{Stop}
-use Rattle.stream_groups.specs.declared.taken.Taken.{Taken}
 use Rattle.stream_groups.specs.declared.taken.Taken.TheVariants as taken
 use Rattle.stream_groups.proofs.Refusals.{begins, missing_tells}
 use Rattle.good_groups.specs.Good.{NamesIfNone}

@@ -1,8 +1,7 @@
-use Rattle.std.proofs.Common.{◌≡◌, ◌∙◌, ◌∷◌, [], Err, IfErr, ℕ, List, Option, Result, Some, ap, length, refl, rules, subst, sym}
+use Rattle.std.proofs.Common.{◌≡◌, ◌∙◌, Err, IfErr, Result, ap, refl, rules, subst, sym}
 use Rattle.std.proofs.lemmas.Result.{IfOk-weaker}
 use Rattle.csv_rows.specs.Readings.{records_as}
 use Rattle.csv_rows.specs.Records.{record_at}
-use Rattle.par_model.specs.Plan.{Plan}
 use Rattle.plan_spec.specs.Query.{Query}
 use Rattle.stream_groups.specs.Reading.{AreGroupsOver, IsBound}
 use Rattle.stream_groups.specs.Ways.{of_text}

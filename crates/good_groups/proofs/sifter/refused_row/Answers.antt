@@ -1,4 +1,4 @@
-use Rattle.std.proofs.Common.{◌≡◌, ◌++◌, ◌∙◌, List, ℕ, ap, refl, string_bytes, subst, sym}
+use Rattle.std.proofs.Common.{◌++◌, ◌∙◌, List, ℕ, ap, refl, string_bytes, subst}
 use Rattle.csv_rows.specs.Readings.{IsSeparator, records_as}
 use Rattle.csv_rows.specs.Records.{record_at}
 use Rattle.csv_rows.specs.declared.cleaning.Reading.{Reading}

@@ -1,5 +1,4 @@
-use Rattle.std.proofs.Common.{◌≡◌, ◌+◌, ◌-◌, ◌∙◌, ℕ, List, ap, arith, drop, length, length-take, min, refl, sym, take}
-use Rattle.std.proofs.lemmas.List.{drop-drop, length-drop}
+use Rattle.std.proofs.Common.{◌≡◌, ◌-◌, ◌∙◌, ap, arith, drop, length, refl, take}
 use Rattle.good_groups.proofs.Pieces.{skipped}
 use Rattle.good_groups.proofs.piece.Piece.skip.Goals as goal
 

@@ -1,4 +1,4 @@
-use Rattle.std.proofs.Common.{◌∙◌, [], Err, ap, refl}
+use Rattle.std.proofs.Common.{[], Err, ap, refl}
 use Rattle.good_groups.specs.Sifting.{IsOpen}
 use Rattle.good_groups.proofs.Goes.{halted_goes, keeps_same}
 use Rattle.good_groups.proofs.Steps.{done_goes, next_end, not_counted, sifts_same}

@@ -1,6 +1,4 @@
-use Rattle.std.proofs.Common.{◌≡◌, ◌∙◌, None, Option, refl, subst, sym}
-use Rattle.stream_groups.specs.declared.stop.RefusedRow.{RefusedRow}
-use Rattle.good_groups.specs.Counted.{HasCounted, IsFirst}
+use Rattle.std.proofs.Common.{◌∙◌, sym}
 use Rattle.good_groups.proofs.Counting.{known_first, no_first}
 use Rattle.good_groups.proofs.Rows.{line_tells}
 use Rattle.good_groups.proofs.tally.Tally.know.Goals as goal

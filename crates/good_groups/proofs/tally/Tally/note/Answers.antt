@@ -1,4 +1,4 @@
-use Rattle.std.proofs.Common.{◌≡◌, ◌≤◌, ◌∙◌, List, ℕ, ap, arith, sym}
+use Rattle.std.proofs.Common.{◌≤◌, ◌∙◌, ℕ, ap, arith, sym}
 use Rattle.csv_rows.specs.Readings.{records_as}
 use Rattle.csv_rows.specs.Records.{record_at}
 use Rattle.par_model.specs.Refuse.{refusal}
