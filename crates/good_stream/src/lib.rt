@@ -25,9 +25,7 @@ mod said;
 
 use good_groups::{GoodGroups, LeftOut, read_good};
 use par_io::{Sink, Source};
-use par_stream::{
-    Progress, READ_FAULT, REFUSED, Separated, Stop, TABLE, WRITE_FAULT, write_table,
-};
+use par_stream::{Progress, READ_FAULT, REFUSED, Separated, Stop, TABLE, WRITE_FAULT, write_table};
 use said::say_left_out;
 use std::alloc::Global;
 use std::sync::Wait;
