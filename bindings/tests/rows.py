@@ -97,6 +97,15 @@ STREAMS = [
     ),
     (
         "--agg count",
+        b"SQLite format 3\0\x10\0\x01\x01",
+        b"",
+        b"parstream: the input is an SQLite database: sqlite3 -csv -header FILE 'SELECT * FROM t' | parstream ..\n",
+        2,
+    ),
+    ("--agg count", b"\n <!doctype html>\n<p>", b"", b"parstream: the input is HTML: save its table as CSV\n", 2),
+    ("--agg count", b"<g>,SQLite format 3\n1,2\n", b"count\n1\n", b"", 0),
+    (
+        "--agg count",
         "g,v\n".encode("utf-16"),
         b"",
         b"parstream: the input is UTF-16: iconv -f UTF-16 -t UTF-8 FILE | parstream ..\n",

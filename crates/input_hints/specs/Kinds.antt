@@ -1,12 +1,22 @@
 -- Files that are no comma-separated text, by the bytes that they begin with.
-use Rattle.std.specs.Prelude.{[], ◌==◌, ◌&&◌, ◌||◌, ◌∷◌, ℕ, Bool, not, List, Option, None, Some, codes, if◌then◌else◌, length, nat_le, slice_index}
-use Rattle.std.specs.List.{starts_with}
+use Rattle.std.specs.Prelude.{[], ◌==◌, ◌&&◌, ◌||◌, ◌∷◌, ◌++◌, ℕ, Bool, not, List, Option, None, Some, codes, drop, if◌then◌else◌, length, nat_le, slice_index, take}
+use Rattle.std.specs.Char.{is_ascii_whitespace}
+use Rattle.std.specs.List.{prefix_len, starts_with}
+use Rattle.std.specs.Str.{str_eq_ignore_ascii_case}
 use Rattle.input_hints.specs.declared.kind.Kind.{Kind}
 use Rattle.input_hints.specs.declared.kind.Kind.TheVariants as kind
 
 -- bytes begin with these
 abbrev pub begins : List ℕ → List ℕ → Bool
 begins bytes front = starts_with (λ a b. a == b) bytes front
+
+-- the same, if capital letters are taken for small ones
+abbrev pub begins_in_any_case : List ℕ → List ℕ → Bool
+begins_in_any_case bytes front = str_eq_ignore_ascii_case (take (length front) bytes) front
+
+-- bytes without the white space that they begin with
+abbrev pub after_space : List ℕ → List ℕ
+after_space bytes = drop (prefix_len is_ascii_whitespace bytes) bytes
 
 -- gzip (RFC 1952): its magic number and the one method of compression there is
 abbrev pub is_gzip : List ℕ → Bool
@@ -44,6 +54,14 @@ is_ole bytes = begins bytes (0xd0 ∷ 0xcf ∷ 0x11 ∷ 0xe0 ∷ [])
 abbrev pub is_pdf : List ℕ → Bool
 is_pdf bytes = begins bytes (codes "%PDF-1") || begins bytes (codes "%PDF-2")
 
+-- a database of SQLite: the header string of its file format, which ends with a zero
+abbrev pub is_sqlite : List ℕ → Bool
+is_sqlite bytes = begins bytes (codes "SQLite format 3" ++ (0 ∷ []))
+
+-- HTML: after white space its document type or the tag of its root, in small letters or capital ones
+abbrev pub is_html : List ℕ → Bool
+is_html bytes = begins_in_any_case (after_space bytes) (codes "<!doctype html") || begins_in_any_case (after_space bytes) (codes "<html")
+
 -- a byte-order mark of UTF-32, in either order; the one begins with that of UTF-16
 abbrev pub has_long_mark : List ℕ → Bool
 has_long_mark bytes = begins bytes (0xff ∷ 0xfe ∷ 0x00 ∷ 0x00 ∷ []) || begins bytes (0x00 ∷ 0x00 ∷ 0xfe ∷ 0xff ∷ [])
@@ -60,9 +78,9 @@ is_low_first bytes = nat_le 4 (length bytes) && ((not (slice_index bytes 0 == 0)
 abbrev pub is_high_first : List ℕ → Bool
 is_high_first bytes = nat_le 4 (length bytes) && (((slice_index bytes 0 == 0) && not (slice_index bytes 1 == 0)) && ((slice_index bytes 2 == 0) && not (slice_index bytes 3 == 0)))
 
--- what a file is by the bytes that it begins with, if it is one of these
-abbrev pub kind_in : List ℕ → Option Kind
-kind_in bytes =
+-- what a file is that begins with these bytes, if it is one of these
+abbrev pub kind_by : List ℕ → Option Kind
+kind_by bytes =
     if is_gzip bytes then Some kind.Gzip
     else (if is_xz bytes then Some kind.Xz
     else (if is_zstd bytes then Some kind.Zstd
@@ -72,10 +90,16 @@ kind_in bytes =
     else (if is_json bytes then Some kind.Json
     else (if is_ole bytes then Some kind.Ole
     else (if is_pdf bytes then Some kind.Pdf
+    else (if is_sqlite bytes then Some kind.Sqlite
+    else (if is_html bytes then Some kind.Html
     else (if has_long_mark bytes then Some kind.Utf32
     else (if has_mark bytes then Some kind.Utf16
     else (if is_low_first bytes then Some kind.Utf16Low
-    else (if is_high_first bytes then Some kind.Utf16High else None))))))))))))
+    else (if is_high_first bytes then Some kind.Utf16High else None))))))))))))))
+
+-- what a file is by the bytes that it begins with, of which sixteen are looked at
+abbrev pub kind_in : List ℕ → Option Kind
+kind_in bytes = kind_by (take 16 bytes)
 
 -- what is said of it, with a command that makes text of it
 abbrev pub kind_text : Kind → List ℕ
@@ -88,6 +112,8 @@ kind_text kind.Bzip2 = codes "the input is compressed by bzip2: bzcat FILE | par
 kind_text kind.Json = codes "the input is JSON: duckdb -csv -c \"FROM read_json('FILE')\" | parstream .."
 kind_text kind.Ole = codes "the input is a file of Excel before 2007 or the like: save it as CSV"
 kind_text kind.Pdf = codes "the input is PDF: save its table as CSV"
+kind_text kind.Sqlite = codes "the input is an SQLite database: sqlite3 -csv -header FILE 'SELECT * FROM t' | parstream .."
+kind_text kind.Html = codes "the input is HTML: save its table as CSV"
 kind_text kind.Utf32 = codes "the input is UTF-32: iconv -f UTF-32 -t UTF-8 FILE | parstream .."
 kind_text kind.Utf16 = codes "the input is UTF-16: iconv -f UTF-16 -t UTF-8 FILE | parstream .."
 kind_text kind.Utf16Low = codes "the input is UTF-16: iconv -f UTF-16LE -t UTF-8 FILE | parstream .."

@@ -11,6 +11,6 @@ peeked_left left p = prepend_known p.front (left p.source)
 abbrev pub peeked_faults : {S : Type 0} → (S → ℕ) → Peeked S → ℕ
 peeked_faults faults p = faults p.source
 
--- six bytes were read and not given yet, or all that are left
+-- sixteen bytes were read and not given yet, or all that are left
 abbrev pub HasFront : {S : Type 0} → (S → Option (List ℕ)) → Peeked S → Type 0
-HasFront left p = (length p.front ≡ 6) ⊎ IsAtEnd (left p.source)
+HasFront left p = (length p.front ≡ 16) ⊎ IsAtEnd (left p.source)

@@ -7,10 +7,10 @@ ghost use Rattle.par_io.specs.Faults.{HasCause};
 use par_io::{Failed, Source};
 use std::marker::Model;
 
-/// Bytes that were read and not given yet, at most six. Contracts see them as a list.
+/// Bytes that were read and not given yet, at most sixteen. Contracts see them as a list.
 #[derive(Drop)]
 pub(crate) struct Front {
-    bytes: [u8; 6],
+    bytes: [u8; 16],
     count: usize,
 }
 
@@ -21,7 +21,7 @@ impl Model for Front {
 
     ghost view = { λ f. take f.count f.bytes };
 
-    ghost invariant = { λ f. f.count ≤ 6 };
+    ghost invariant = { λ f. f.count ≤ 16 };
 }
 
 impl Front {
@@ -30,7 +30,7 @@ impl Front {
         ensures { result ≡ [] }
     {
         Front {
-            bytes: [0; 6],
+            bytes: [0; 16],
             count: 0,
         }
     }
@@ -51,15 +51,15 @@ impl Front {
 
     /// Whether there is no room for another byte.
     pub(crate) fn is_full(&self) -> bool
-        ensures full { result ≡ (length self.now == 6) }
-        ensures room { result ≡ false → length self.now < 6 }
+        ensures full { result ≡ (length self.now == 16) }
+        ensures room { result ≡ false → length self.now < 16 }
     {
-        self.count == 6
+        self.count == 16
     }
 
     /// One read of a source into the room that is left: how many bytes came, which is 0 only at the end of the source.
     pub(crate) fn read<S: Source>(&mut self, source: &mut S) -> Result<usize, Failed>
-        requires { length self.old < 6 }
+        requires { length self.old < 16 }
         ensures kept { Keeps (prepend_known self.old (S.left source.old)) (prepend_known self.new (S.left source.new)) }
         ensures more { IfOk result (λ count. length self.new ≡ length self.old + count) }
         ensures end { IfOk result (λ count. count ≡ 0 → IsAtEnd (S.left source.new)) }

@@ -1,7 +1,7 @@
 //! Files that are no comma-separated text, by their first bytes.
 
 ghost use Rattle.std.specs.Prelude.{◌≡◌, slice_index};
-ghost use Rattle.input_hints.specs.Kinds.{has_long_mark, has_mark, is_bzip2, is_gzip, is_high_first, is_json, is_low_first, is_ole, is_parquet, is_pdf, is_xz, is_zip, is_zstd, kind_in, kind_text};
+ghost use Rattle.input_hints.specs.Kinds.{begins_in_any_case, has_long_mark, has_mark, is_bzip2, is_gzip, is_high_first, is_html, is_json, is_low_first, is_ole, is_parquet, is_pdf, is_sqlite, is_xz, is_zip, is_zstd, kind_by, kind_in, kind_text};
 
 /// What a file is.
 #[derive(Clone, Copy, Debug, PartialEq, Eq)]
@@ -18,6 +18,8 @@ pub enum Kind {
     /// A file of Excel before 2007, or of another program of its time.
     Ole,
     Pdf,
+    Sqlite,
+    Html,
     /// With a byte-order mark.
     Utf32,
     /// With a byte-order mark.
@@ -49,6 +51,10 @@ impl Kind {
             }
             Kind::Ole => "the input is a file of Excel before 2007 or the like: save it as CSV",
             Kind::Pdf => "the input is PDF: save its table as CSV",
+            Kind::Sqlite => {
+                "the input is an SQLite database: sqlite3 -csv -header FILE 'SELECT * FROM t' | parstream .."
+            }
+            Kind::Html => "the input is HTML: save its table as CSV",
             Kind::Utf32 => "the input is UTF-32: iconv -f UTF-32 -t UTF-8 FILE | parstream ..",
             Kind::Utf16 => "the input is UTF-16: iconv -f UTF-16 -t UTF-8 FILE | parstream ..",
             Kind::Utf16Low => {
@@ -61,9 +67,16 @@ impl Kind {
     }
 }
 
-/// What a file is by the bytes that it begins with, of which six are enough; none if it may be text. In constant time.
+/// What a file is by the bytes that it begins with, of which sixteen are looked at; none if it may be text. In constant time.
 pub fn kind_of(bytes: &[u8]) -> Option<Kind>
     ensures { result ≡ kind_in bytes.now }
+{
+    kind_by(&bytes[..bytes.len().min(16)])
+}
+
+/// What a file is by these bytes.
+fn kind_by(bytes: &[u8]) -> Option<Kind>
+    ensures { result ≡ kind_by bytes.now }
 {
     if is_gzip(bytes) {
         Some(Kind::Gzip)
@@ -83,6 +96,10 @@ pub fn kind_of(bytes: &[u8]) -> Option<Kind>
         Some(Kind::Ole)
     } else if is_pdf(bytes) {
         Some(Kind::Pdf)
+    } else if is_sqlite(bytes) {
+        Some(Kind::Sqlite)
+    } else if is_html(bytes) {
+        Some(Kind::Html)
     } else if has_long_mark(bytes) {
         Some(Kind::Utf32)
     } else if has_mark(bytes) {
@@ -165,6 +182,29 @@ fn is_pdf(bytes: &[u8]) -> bool
     ensures { result ≡ is_pdf bytes.now }
 {
     bytes.starts_with(b"%PDF-1") || bytes.starts_with(b"%PDF-2")
+}
+
+/// Whether it is a database of SQLite.
+fn is_sqlite(bytes: &[u8]) -> bool
+    ensures { result ≡ is_sqlite bytes.now }
+{
+    bytes.starts_with(b"SQLite format 3\0")
+}
+
+/// Whether it is HTML, which may begin with white space.
+fn is_html(bytes: &[u8]) -> bool
+    ensures { result ≡ is_html bytes.now }
+{
+    let text = bytes.trim_ascii_start();
+    begins_in_any_case(text, b"<!doctype html") || begins_in_any_case(text, b"<html")
+}
+
+/// Whether bytes begin with these, if capital letters are taken for small ones.
+fn begins_in_any_case(bytes: &[u8], front: &[u8]) -> bool
+    ensures { result ≡ begins_in_any_case bytes.now front.now }
+{
+    let count = front.len().min(bytes.len());
+    bytes[..count].eq_ignore_ascii_case(front)
 }
 
 /// Whether it begins with a byte-order mark of UTF-32.

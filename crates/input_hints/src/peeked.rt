@@ -10,7 +10,7 @@ use crate::front::Front;
 use crate::kind::{Kind, kind_of};
 use par_io::{Failed, Source};
 
-/// A source whose first bytes, six at most, may have been read already: it gives these first, and then what the source
+/// A source whose first bytes, sixteen at most, may have been read already: it gives these first, and then what the source
 /// under it has left.
 #[derive(Drop)]
 pub struct Peeked<S> {
@@ -30,7 +30,7 @@ impl<S: Source> Peeked<S> {
         }
     }
 
-    /// What the bytes that are left are by the first of them; none if they may be text. It reads until six bytes are
+    /// What the bytes that are left are by the first of them; none if they may be text. It reads until sixteen bytes are
     /// there, or the source has ended, and what is left stays the same: a read gives these bytes once more.
     pub fn kind(&mut self) -> Result<Option<Kind>, Failed>
         ensures left { Keeps (peeked_left S.left self.old) (peeked_left S.left self.new) }
@@ -41,7 +41,7 @@ impl<S: Source> Peeked<S> {
         Ok(kind_of(self.front.as_slice()))
     }
 
-    /// Reads until six bytes are there, or the source has ended.
+    /// Reads until sixteen bytes are there, or the source has ended.
     fn peek(&mut self) -> Result<(), Failed>
         ensures left { Keeps (peeked_left S.left self.old) (peeked_left S.left self.new) }
         ensures front { OnOk result (HasFront S.left self.new) }

@@ -60,7 +60,7 @@ fn tells(rt: HostRuntime) -> Result<(), Fail> {
 }
 
 /// The first bytes of files, and what these are.
-const KINDS: [(&[u8], Option<Kind>); 29] = [
+const KINDS: [(&[u8], Option<Kind>); 36] = [
     (b"\x1f\x8b\x08\0", Some(Kind::Gzip)),
     (b"\xfd7zXZ\0\0\x04", Some(Kind::Xz)),
     (b"\x28\xb5\x2f\xfd\x04", Some(Kind::Zstd)),
@@ -74,6 +74,13 @@ const KINDS: [(&[u8], Option<Kind>); 29] = [
     (b"\xd0\xcf\x11\xe0\xa1\xb1", Some(Kind::Ole)),
     (b"%PDF-1.7\n", Some(Kind::Pdf)),
     (b"%PDF,v\n", None),
+    (b"SQLite format 3\0\x10\0", Some(Kind::Sqlite)),
+    (b"SQLite format 3,v\n", None),
+    (b"<!DOCTYPE html>\n", Some(Kind::Html)),
+    (b"\r\n <HTML lang=en>", Some(Kind::Html)),
+    (b"            <html>", None),
+    (b"<html", Some(Kind::Html)),
+    (b"<h>,v\n", None),
     (b"{g},v\n", None),
     (b"[g],\"v\"\n", None),
     (b"\xff\xfe\0\0g\0\0\0", Some(Kind::Utf32)),

@@ -10,4 +10,4 @@ invariant-reads g l = record {
 }
 
 abbrev pub decreases-reads : goal.decreases-reads
-decreases-reads g l = 6 - length l.self.front
+decreases-reads g l = 16 - length l.self.front
