@@ -28,6 +28,7 @@ pub(crate) struct Ahead {
 }
 
 impl Model for Ahead {
+    ghost use Rattle.std.specs.Prelude.{◌<◌, ◌≤◌, drop, vec_len};
     ghost use Rattle.state_source.specs.Reading.{Held};
 
     ghost Value = { Held };
@@ -44,7 +45,7 @@ impl Ahead {
         ensures ended { IfOk result (λ ahead. ahead.ended ≡ first.now.ended) }
     {
         let bytes = Vec::from_slice(alloc, first.bytes.as_slice())?;
-        let piece = vec![in alloc; 0u8; PIECE]?;
+        let piece = new_piece(alloc)?;
         Ok(Ahead {
             bytes,
             at: 0,
@@ -102,6 +103,13 @@ impl Ahead {
             Err(why) => Err(why),
         }
     }
+}
+
+/// Room for one read.
+pub(crate) fn new_piece(alloc: Global) -> Result<Vec<u8>, AllocError>
+    ensures { IfOk result (λ piece. 0 < vec_len piece) }
+{
+    vec![in alloc; 0u8; PIECE]
 }
 
 /// Drops this many bytes at the front.

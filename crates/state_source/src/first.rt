@@ -1,13 +1,13 @@
 //! The first bytes of a source, among them the front of its first file.
 
-ghost use Rattle.std.specs.Prelude.{◌≡◌, ◌≤◌, IfErr, IfOk};
+ghost use Rattle.std.specs.Prelude.{◌≡◌, ◌≤◌, IfErr, IfOk, IsTrue};
 ghost use Rattle.std.specs.Io.KnownBytes.{Consumes};
 ghost use Rattle.par_io.specs.Faults.{Rose};
-ghost use Rattle.state_source.specs.Reading.{IsBegun, IsNoLoad};
+ghost use Rattle.state_source.specs.Reading.{HasFront, IsBegun, IsNoLoad};
 ghost use Rattle.state_source.specs.declared.adding.SourceFault.TheVariants as fault;
 
 use crate::adding::SourceFault;
-use crate::ahead::{PIECE, read_to};
+use crate::ahead::{PIECE, new_piece, read_to};
 use par_io::Source;
 use state_front::read_front;
 use std::alloc::Global;
@@ -33,7 +33,7 @@ pub fn read_first<S: Source>(alloc: Global, source: &mut S) -> Result<FirstBytes
     ensures read_fault { IfErr result (λ why. why ≡ fault.ReadFault → Rose (S.faults source.old) (S.faults source.new)) }
     ensures faults { S.faults source.old ≤ S.faults source.new }
 {
-    let Ok(mut piece) = vec![in alloc; 0u8; PIECE] else {
+    let Ok(mut piece) = new_piece(alloc) else {
         return Err(SourceFault::Memory);
     };
     let mut bytes = Vec::new(alloc);
@@ -43,10 +43,20 @@ pub fn read_first<S: Source>(alloc: Global, source: &mut S) -> Result<FirstBytes
             Ok(ended) => ended,
             Err(why) => return Err(why),
         };
-        if ended || read_front(alloc, bytes.as_slice()).is_ok() {
+        if ended || has_front(alloc, bytes.as_slice()) {
             return Ok(FirstBytes { bytes, ended });
         }
         wanted *= 2;
     }
     Err(SourceFault::Memory)
+}
+
+/// Whether some bytes begin with the front of a file.
+fn has_front(alloc: Global, bytes: &[u8]) -> bool
+    ensures { IsTrue result → HasFront bytes.now }
+{
+    match read_front(alloc, bytes) {
+        Ok(_) => true,
+        Err(_) => false,
+    }
 }
