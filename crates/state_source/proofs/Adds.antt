@@ -1,11 +1,11 @@
 -- Files that were added, and those after them.
-use Rattle.std.proofs.Common.{◌≡◌, ◌+◌, ◌++◌, ◌∙◌, ◌⊎◌, inl, inr, ℕ, List, [], ◌∷◌, Option, ap, append_assoc, append-nil, arith, drop, length, length-append, refl, subst, sym}
+use Rattle.std.proofs.Common.{◌≡◌, ◌+◌, ◌++◌, ◌∙◌, inl, inr, Err, IfErr, IfOk, Ok, Result, ℕ, List, [], ◌∷◌, Option, ap, append_assoc, append-nil, arith, drop, length, length-append, refl, subst, sym}
 use lib.Seq.{drop_at}
 use Rattle.std.proofs.KnownBytes.{Consumes-nil, Consumes-trans}
 use Rattle.std.proofs.lemmas.Grind.{flat_map-append}
 use Rattle.std.proofs.lemmas.List.Elements.{All-append, All-cons, All-nil}
 use Rattle.std.proofs.lemmas.List.Sums.{fold-append}
-use Rattle.std.specs.Io.KnownBytes.{Consumes, IsAtEnd}
+use Rattle.std.specs.Io.KnownBytes.{Consumes}
 use Rattle.partial_agg.specs.Groups.{GroupsByKey}
 use Rattle.state_head.specs.Head.{Subject}
 use Rattle.state_head.specs.Words.{Keys}
@@ -15,7 +15,7 @@ use Rattle.state_load.specs.Loading.{AreAdded, IsPart, files_bytes, stretches_of
 use Rattle.state_load.specs.declared.loading.LoadCause.{LoadCause}
 use Rattle.state_load.specs.declared.loading.LoadFault.{LoadFault}
 use Rattle.state_source.specs.Adding.{AreFound, IsFaultOf, IsLast, IsNext, IsShifted}
-use Rattle.state_source.specs.Reading.{Held, OfLeft}
+use Rattle.state_source.specs.Reading.{Held, IsNoLoad, OfLeft}
 use Rattle.state_source.specs.declared.adding.SourceFault.{SourceFault}
 use Rattle.state_source.specs.declared.adding.SourceFault.TheVariants as fault
 use Rattle.state_source.proofs.Rests.{of_any, of_as, of_end, of_more}
@@ -162,16 +162,15 @@ one_read shape subject keys was left after first held now old sum next count is 
 -- ---- at the end
 
 -- all was read, and the rest are files
-pub all_read : (shape : Shape) (subject : Subject) (keys : Keys) (was left after : Option (List ℕ)) (first : List ℕ) (held now : Held) (old sum next last : Sum) (count more : ℕ) → IsReadTo shape subject keys was left first held.bytes old sum count
-    → IsLast left after held now sum next → (m : GroupsByKey) (cover : List Stretch) → AreSummed m cover old
-    → ((n : GroupsByKey) (ss : List Stretch) → AreSummed n ss next → AreAdded shape subject keys now.bytes n ss last more)
+all_read : (shape : Shape) (subject : Subject) (keys : Keys) (was left after : Option (List ℕ)) (first : List ℕ) (held now : Held) (old sum next last : Sum) (count more : ℕ) (is : IsReadTo shape subject keys was left first held.bytes old sum count)
+    → IsLast left after held now sum next → (m : GroupsByKey) (cover : List Stretch) (summed : AreSummed m cover old)
+    → AreAdded shape subject keys now.bytes (sum_of shape m (is.found m cover summed).files) (cover ++ stretches_of (is.found m cover summed).files) last more
     → OfLeft was (λ rest. AreAdded shape subject keys (first ++ rest) m cover last (count + more))
 all_read shape subject keys was left after first held now old sum next last count more is end m cover summed rest =
     let a = is.found m cover summed in
     let n = sum_of shape m a.files in
     let ss = cover ++ stretches_of a.files in
-    let next_is = subst (λ (s : Sum). AreSummed n ss s) (sym end.same) a.sum_is in
-    let found = found_all shape subject keys now.bytes n ss last more (rest n ss next_is) in
+    let found = found_all shape subject keys now.bytes n ss last more rest in
     let grown = found_grow shape subject keys (first ++ is.more) held.bytes end.reads.0 m cover sum count a in
     let tail = subst (λ (bs : List ℕ). AreFound shape subject keys bs [] n ss last more) end.reads.2 found in
     let all = found_join shape subject keys ((first ++ is.more) ++ end.reads.0) (held.bytes ++ end.reads.0) [] m cover sum last count more grown tail in
@@ -180,20 +179,50 @@ all_read shape subject keys was left after first held now old sum next last coun
     (all_found shape subject keys (first ++ (is.more ++ end.reads.0)) m cover last (count + more) whole)
 
 -- or one of them is none
-pub rest_wrong : (shape : Shape) (subject : Subject) (keys : Keys) (was left after : Option (List ℕ)) (first : List ℕ) (held now : Held) (old sum next : Sum) (count : ℕ) (why shifted : SourceFault) → IsReadTo shape subject keys was left first held.bytes old sum count
-    → IsLast left after held now sum next → (m : GroupsByKey) (cover : List Stretch) → AreSummed m cover old
-    → ((n : GroupsByKey) (ss : List Stretch) → AreSummed n ss next → IsFaultOf shape subject keys n now.bytes why) → IsShifted count why shifted
+rest_wrong : (shape : Shape) (subject : Subject) (keys : Keys) (was left after : Option (List ℕ)) (first : List ℕ) (held now : Held) (old sum next : Sum) (count : ℕ) (why shifted : SourceFault) (is : IsReadTo shape subject keys was left first held.bytes old sum count)
+    → IsLast left after held now sum next → (m : GroupsByKey) (cover : List Stretch) (summed : AreSummed m cover old)
+    → IsFaultOf shape subject keys (sum_of shape m (is.found m cover summed).files) now.bytes why → IsShifted count why shifted
     → OfLeft was (λ rest. IsFaultOf shape subject keys m (first ++ rest) shifted)
-rest_wrong shape subject keys was left after first held now old sum next count why shifted is end m cover summed rest by =
+rest_wrong shape subject keys was left after first held now old sum next count why shifted is end m cover summed wrong by =
     let a = is.found m cover summed in
     let n = sum_of shape m a.files in
-    let ss = cover ++ stretches_of a.files in
-    let wrong = rest n ss (subst (λ (s : Sum). AreSummed n ss s) (sym end.same) a.sum_is) in
     let grown = found_grow shape subject keys (first ++ is.more) held.bytes end.reads.0 m cover sum count a in
     let tail = subst (λ (bs : List ℕ). IsFaultOf shape subject keys n bs why) end.reads.2 wrong in
     let all = fault_after shape subject keys ((first ++ is.more) ++ end.reads.0) (held.bytes ++ end.reads.0) m cover sum count why shifted grown tail by in
     of_end was after (is.more ++ end.reads.0) (λ rest. IsFaultOf shape subject keys m (first ++ rest) shifted) (Consumes-trans was left after is.more end.reads.0 is.reads end.reads.1) end.end
     (subst (λ (bs : List ℕ). IsFaultOf shape subject keys m bs shifted) (append_assoc first is.more end.reads.0) all)
+
+-- the sum of the files so far, once all was read
+summed_last : (shape : Shape) (subject : Subject) (keys : Keys) (was left after : Option (List ℕ)) (first : List ℕ) (held now : Held) (old sum next : Sum) (count : ℕ) (is : IsReadTo shape subject keys was left first held.bytes old sum count)
+    → IsLast left after held now sum next → (m : GroupsByKey) (cover : List Stretch) (summed : AreSummed m cover old)
+    → AreSummed (sum_of shape m (is.found m cover summed).files) (cover ++ stretches_of (is.found m cover summed).files) next
+summed_last shape subject keys was left after first held now old sum next count is end m cover summed =
+    let a = is.found m cover summed in
+    subst (λ (s : Sum). AreSummed (sum_of shape m a.files) (cover ++ stretches_of a.files) s) (sym end.same) a.sum_is
+
+pub rest_added : (shape : Shape) (subject : Subject) (keys : Keys) (was left after : Option (List ℕ)) (first : List ℕ) (held now : Held) (old sum next last : Sum) (count : ℕ) (taken : List ℕ) (result : Result ℕ SourceFault) (is : IsReadTo shape subject keys was left first held.bytes old sum count)
+    → IsLast left after held now sum next → taken ≡ now.bytes
+    → ((n : GroupsByKey) (ss : List Stretch) → AreSummed n ss next → IfOk result (λ k. (more : ℕ) × AreAdded shape subject keys taken n ss last more × (k ≡ count + more)))
+    → (m : GroupsByKey) (cover : List Stretch) → AreSummed m cover old → IfOk result (λ k. OfLeft was (λ rest. AreAdded shape subject keys (first ++ rest) m cover last k))
+rest_added shape subject keys was left after first held now old sum next last count taken (Err why) is end same added m cover summed = tt
+rest_added shape subject keys was left after first held now old sum next last count taken (Ok k) is end same added m cover summed =
+    let a = is.found m cover summed in
+    let n = sum_of shape m a.files in
+    let ss = cover ++ stretches_of a.files in
+    let did = added n ss (summed_last shape subject keys was left after first held now old sum next count is end m cover summed) in
+    subst (λ (j : ℕ). OfLeft was (λ rest. AreAdded shape subject keys (first ++ rest) m cover last j)) (sym did.2)
+    (all_read shape subject keys was left after first held now old sum next last count did.0 is end m cover summed (subst (λ (bs : List ℕ). AreAdded shape subject keys bs n ss last did.0) same did.1))
+
+pub rest_refused : (shape : Shape) (subject : Subject) (keys : Keys) (was left after : Option (List ℕ)) (first : List ℕ) (held now : Held) (old sum next : Sum) (count : ℕ) (taken : List ℕ) (result : Result ℕ SourceFault) (is : IsReadTo shape subject keys was left first held.bytes old sum count)
+    → IsLast left after held now sum next → taken ≡ now.bytes
+    → ((n : GroupsByKey) (ss : List Stretch) → AreSummed n ss next → IfErr result (λ why. (at : SourceFault) × IsFaultOf shape subject keys n taken at × IsShifted count at why))
+    → (m : GroupsByKey) (cover : List Stretch) → AreSummed m cover old → IfErr result (λ why. OfLeft was (λ rest. IsFaultOf shape subject keys m (first ++ rest) why))
+rest_refused shape subject keys was left after first held now old sum next count taken (Ok k) is end same refused m cover summed = tt
+rest_refused shape subject keys was left after first held now old sum next count taken (Err why) is end same refused m cover summed =
+    let a = is.found m cover summed in
+    let n = sum_of shape m a.files in
+    let did = refused n (cover ++ stretches_of a.files) (summed_last shape subject keys was left after first held now old sum next count is end m cover summed) in
+    rest_wrong shape subject keys was left after first held now old sum next count did.0 why is end m cover summed (subst (λ (bs : List ℕ). IsFaultOf shape subject keys n bs did.0) same did.1) did.2
 
 -- what is wrong before the end
 pub next_wrong : (shape : Shape) (subject : Subject) (keys : Keys) (was left : Option (List ℕ)) (first held : List ℕ) (old sum : Sum) (count : ℕ) (why shifted : SourceFault) → IsReadTo shape subject keys was left first held old sum count
@@ -205,10 +234,15 @@ next_wrong shape subject keys was left first held old sum count why shifted is m
     let n = sum_of shape m a.files in
     of_more was left is.more (λ rest. IsFaultOf shape subject keys m (first ++ rest) shifted) is.reads
     (of_as left (λ more. IsFaultOf shape subject keys n (held ++ more) why) (λ more. IsFaultOf shape subject keys m (first ++ (is.more ++ more)) shifted)
-     (λ more bad. subst (λ (bs : List ℕ). IsFaultOf shape subject keys m bs shifted) (append_assoc first is.more more)
-      (fault_after shape subject keys ((first ++ is.more) ++ more) (held ++ more) m cover sum count why shifted (found_grow shape subject keys (first ++ is.more) held more m cover sum count a) bad by))
-     (wrong n (cover ++ stretches_of a.files) a.sum_is))
+    (λ more bad. subst (λ (bs : List ℕ). IsFaultOf shape subject keys m bs shifted) (append_assoc first is.more more)
+    (fault_after shape subject keys ((first ++ is.more) ++ more) (held ++ more) m cover sum count why shifted (found_grow shape subject keys (first ++ is.more) held more m cover sum count a) bad by))
+    (wrong n (cover ++ stretches_of a.files) a.sum_is))
 
 -- no file is why
-pub no_load : (shape : Shape) (subject : Subject) (keys : Keys) (m : GroupsByKey) (was : Option (List ℕ)) (first : List ℕ) → OfLeft was (λ rest. IsFaultOf shape subject keys m (first ++ rest) fault.Memory)
-no_load shape subject keys m was first = of_any was (λ rest. IsFaultOf shape subject keys m (first ++ rest) fault.Memory) (λ rest. tt)
+not_load : (shape : Shape) (subject : Subject) (keys : Keys) (m : GroupsByKey) (bytes : List ℕ) (why : SourceFault) → IsNoLoad why → IsFaultOf shape subject keys m bytes why
+not_load shape subject keys m bytes fault.ReadFault is = tt
+not_load shape subject keys m bytes fault.Memory is = tt
+not_load shape subject keys m bytes (fault.Load at) is = absurd is
+
+pub no_load : (shape : Shape) (subject : Subject) (keys : Keys) (m : GroupsByKey) (was : Option (List ℕ)) (first : List ℕ) (why : SourceFault) → IsNoLoad why → OfLeft was (λ rest. IsFaultOf shape subject keys m (first ++ rest) why)
+no_load shape subject keys m was first why is = of_any was (λ rest. IsFaultOf shape subject keys m (first ++ rest) why) (λ rest. not_load shape subject keys m (first ++ rest) why is)

@@ -39,3 +39,9 @@ pub of_more : (a b : Option (List ℕ)) (bytes : List ℕ) (P : List ℕ → Typ
 of_more None b bytes P read is = (bytes ++ is.0, tt, is.2)
 of_more (Some x) None bytes P read is = absurd read
 of_more (Some x) (Some y) bytes P read is = (bytes ++ is.0, ap (λ (bs : List ℕ). bytes ++ bs) is.1 ∙ sym read, is.2)
+
+-- it holds of what was read and whatever comes after it
+pub of_read : (a b : Option (List ℕ)) (before held : List ℕ) (P : List ℕ → Type 0) → ReadsOn a b before held → ((more : List ℕ) → P (held ++ more)) → OfLeft a (λ more. P (before ++ more))
+of_read a b before held P reads all =
+    of_more a b reads.0 (λ rest. P (before ++ rest)) reads.1
+    (of_any b (λ more. P (before ++ (reads.0 ++ more))) (λ more. subst P (ap (λ (bs : List ℕ). bs ++ more) reads.2 ∙ append_assoc before reads.0 more) (all more)))

@@ -7,7 +7,6 @@ use Rattle.state_head.specs.Words.{Keys}
 use Rattle.state_head.specs.declared.cover.Stretch.{Stretch}
 use Rattle.state_load.specs.Faults.{AreNoParts}
 use Rattle.state_load.specs.Loading.{AreParts, files_bytes, stretches_of, sum_of}
-use Rattle.state_load.specs.declared.loading.LoadFault.{LoadFault}
 use Rattle.state_source.specs.Reading.{Held, ReadsOn}
 use Rattle.state_source.specs.declared.adding.SourceFault.{SourceFault}
 use Rattle.state_source.specs.declared.adding.SourceFault.TheVariants as fault

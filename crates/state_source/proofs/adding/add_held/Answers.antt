@@ -1,4 +1,4 @@
-use Rattle.std.proofs.Common.{◌≡◌, ◌+◌, ◌++◌, ◌∙◌, ap, arith, length, rules, subst, sym}
+use Rattle.std.proofs.Common.{◌≡◌, ◌++◌, ◌∙◌, ap, arith, length, sym}
 use Rattle.state_head.specs.Head.{subject_of}
 use Rattle.state_head.specs.Words.{keys_of}
 use Rattle.state_source.proofs.Adds.{after_skip, first_wrong, found_one}
@@ -6,19 +6,20 @@ use Rattle.state_whole.specs.Files.{file_bytes}
 use Rattle.state_source.proofs.adding.add_held.Goals as goal
 
 pub returns-in-Ok-Some-clause-held : goal.returns-in-Ok-Some-clause-held
-returns-in-Ok-Some-clause-held c = (added, c.skip.ensures.ended)
-  where
-    before = c.args.ahead.now.bytes
-    after = c.skip.new.self.bytes
-    rest = c.in-Ok-Some.rest.now
-
-    added = λ m cover is.
-        let did = c.in-Ok-Some.ensures.added m cover is in
-        let shape = c.args.shape.now in
-        let begins : before ≡ file_bytes shape.kinds.now did.0 ++ rest = sym c.bytes-2.ensures ∙ did.2 in
-        let less = c.in-Ok-Some.ensures.shorter in
-        let same = after_skip (file_bytes shape.kinds.now did.0) rest before after _ begins (omega (arith, less, ap length c.bytes-2.ensures, ap length c.bytes-in-Ok-Some.ensures)) c.skip.ensures.bytes in
-        found_one shape (subject_of c.args.whole) (keys_of c.args.range) before after m cover c.add_first.new.sum did.0 did.1 (begins ∙ ap (λ bs. file_bytes shape.kinds.now did.0 ++ bs) same) did.3
+returns-in-Ok-Some-clause-held c = (
+  λ m cover is.
+      let shape = c.args.shape.now in
+      let before = c.args.ahead.now.bytes in
+      let after = c.skip.new.self.bytes in
+      let rest = c.in-Ok-Some.rest.now in
+      let did = rw c.in-Ok-Some.field-0-is at (c.in-Ok-Some.ensures.added m cover is) in
+      let front = file_bytes shape.kinds.now did.0 in
+      let begins : before ≡ front ++ rest = sym c.bytes-2.ensures ∙ did.2 in
+      let less = rw c.in-Ok-Some.field-0-is at c.in-Ok-Some.ensures.shorter in
+      let same = after_skip front rest before after _ begins (omega (arith, less, ap length c.bytes-2.ensures, ap length c.bytes-in-Ok-Some.ensures)) c.skip.ensures.bytes in
+      found_one shape (subject_of c.args.whole) (keys_of c.args.range) before after m cover c.add_first.new.sum did.0 did.1 (begins ∙ ap (λ bs. front ++ bs) same) did.3,
+  c.skip.ensures.ended,
+)
 
 pub returns-in-Err-clause-refused : goal.returns-in-Err-clause-refused
 returns-in-Err-clause-refused c = λ m cover more is.

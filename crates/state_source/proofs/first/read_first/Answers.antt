@@ -1,5 +1,5 @@
-use Rattle.std.proofs.Common.{arith, ◌∙◌, sym}
-use Rattle.state_source.proofs.Rests.{reads_first, reads_from}
+use Rattle.std.proofs.Common.{arith}
+use Rattle.state_source.proofs.Rests.{reads_first}
 use Rattle.state_source.proofs.first.read_first.Goals as goal
 
 pub tries-init : goal.tries-init
