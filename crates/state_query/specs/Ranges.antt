@@ -64,6 +64,10 @@ pub record HasNoRange (above below bytes : List ℕ) : Type 0 where
 abbrev pub IsRangeStop : List ℕ → List ℕ → List ℕ → Stop → Type 0
 IsRangeStop above below bytes why = ((why ≡ stop.NoKey) × HasNoRange above below bytes) ⊎ IsStopOf bytes why
 
+-- a read failed, or the reason is one of these words and bytes
+abbrev pub IsRangeReadStop : List ℕ → List ℕ → List ℕ → Stop → Type 0
+IsRangeReadStop above below bytes why = (why ≡ stop.ReadFault) ⊎ IsRangeStop above below bytes why
+
 -- why a call on a source that has these bytes left ends so: a read or a write failed, or the reason is one of the words and bytes
 abbrev pub IsRangeWhy : List ℕ → List ℕ → List ℕ → Stop → Type 0
 IsRangeWhy above below bytes why = (why ≡ stop.ReadFault) ⊎ ((why ≡ stop.WriteFault) ⊎ IsRangeStop above below bytes why)

@@ -19,6 +19,8 @@ use Rattle.state_load.specs.declared.loading.LoadFault.{LoadFault}
 use Rattle.state_plan.specs.FilePlans.{AskFor, HasNoPlan, header_of}
 use Rattle.state_plan.specs.declared.file_plan.PlanFault.{PlanFault}
 use Rattle.state_plan.specs.declared.file_plan.PlanFault.TheVariants as plan_fault
+use Rattle.state_source.specs.declared.adding.SourceFault.{SourceFault}
+use Rattle.state_source.specs.declared.adding.SourceFault.TheVariants as source_fault
 use Rattle.state_total.specs.Total.{LacksBytes}
 use Rattle.state_total.specs.declared.total.FirstRefused.{FirstRefused}
 use Rattle.state_whole.specs.Adding.{IsShapeOf}
@@ -121,3 +123,13 @@ IsStopOf bytes stop.Memory = Unit {0}
 -- why a call on a source that has these bytes left ends so: a read or a write failed, or the reason is one of the bytes
 abbrev pub IsWhy : List ℕ → Stop → Type 0
 IsWhy bytes why = (why ≡ stop.ReadFault) ⊎ ((why ≡ stop.WriteFault) ⊎ IsStopOf bytes why)
+
+-- why there is nothing of a source with these bytes: a read failed, or the reason is one of the bytes
+abbrev pub IsReadStop : List ℕ → Stop → Type 0
+IsReadStop bytes why = (why ≡ stop.ReadFault) ⊎ IsStopOf bytes why
+
+-- why the files of a source with these bytes are not added
+abbrev pub IsNoSource : List ℕ → SourceFault → Type 0
+IsNoSource bytes source_fault.ReadFault = Unit {0}
+IsNoSource bytes source_fault.Memory = Unit {0}
+IsNoSource bytes (source_fault.Load fault) = IsNoInput bytes fault

@@ -1,23 +1,23 @@
 //! The files of an input, put together.
 
-ghost use Rattle.std.specs.Prelude.{◌≡◌, ◌⊎◌, IfErr, IfOk, IfSome};
+ghost use Rattle.std.specs.Prelude.{◌≡◌, ◌≤◌, ◌++◌, ◌⊎◌, IfErr, IfOk, List, Option, ℕ, false};
+ghost use Rattle.std.specs.Io.KnownBytes.{Consumes};
 ghost use Rattle.par_io.specs.Faults.{Rose};
 ghost use Rattle.state_head.specs.Words.{keys_of};
 ghost use Rattle.state_query.specs.Inputs.{IsLoaded, IsOpened, all_keys};
-ghost use Rattle.state_query.specs.Whys.{IsStopOf};
+ghost use Rattle.state_query.specs.Whys.{IsReadStop, IsStopOf};
 ghost use Rattle.state_query.specs.declared.stop.Stop.TheVariants as stop;
+ghost use Rattle.state_source.specs.Reading.{EndsAt, HasFront, IsBegun, OfLeft};
 
 use crate::stop::Stop;
-use par_io::{NotWhole, Source, read_whole};
+use par_io::Source;
 use state_front::read_front;
 use state_head::{KeyRange, Whole};
-use state_load::{LoadCause, LoadFault, add_files};
+use state_load::{LoadCause, LoadFault};
 use state_plan::FilePlan;
+use state_source::{FirstBytes, add_source, read_first};
 use state_whole::{Kept, Sum};
 use std::alloc::Global;
-
-/// The most bytes of an input: a tebibyte.
-const MOST_BYTES: usize = 1 << 40;
 
 /// What the first file of an input says, as all of them have to, and its plan.
 #[derive(Drop)]
@@ -36,25 +36,27 @@ pub(crate) struct Loaded<'a, 'k> {
     pub(crate) sum: Sum<'k>,
 }
 
-/// All bytes of a source.
-pub(crate) fn read_input<S: Source>(alloc: Global, source: &mut S) -> Result<Vec<u8>, Stop>
-    ensures whole { IfOk result (λ v. IfSome (S.left source.old) (λ bytes. v.items ≡ bytes)) }
+/// The first bytes of a source.
+pub(crate) fn first_of<S: Source>(alloc: Global, source: &mut S) -> Result<FirstBytes, Stop>
+    ensures reads { IfOk result (λ first. Consumes (S.left source.old) (S.left source.new) first.bytes.items) }
+    ensures begun { IfOk result (IsBegun (S.left source.new)) }
     ensures why { IfErr result (λ why. (why ≡ stop.ReadFault) ⊎ (why ≡ stop.Memory)) }
     ensures read_fault { IfErr result (λ why. why ≡ stop.ReadFault → Rose (S.faults source.old) (S.faults source.new)) }
+    ensures faults { S.faults source.old ≤ S.faults source.new }
 {
-    match read_whole(alloc, source, MOST_BYTES) {
-        Ok(bytes) => Ok(bytes),
-        Err(NotWhole::ReadFault) => Err(Stop::ReadFault),
-        Err(NotWhole::TooLong | NotWhole::Memory) => Err(Stop::Memory),
+    match read_first(alloc, source) {
+        Ok(first) => Ok(first),
+        Err(why) => Err(Stop::of_source(why)),
     }
 }
 
-/// The first file of those that some bytes are, if they begin with one.
-pub(crate) fn open<'a>(alloc: Global, bytes: &'a [u8]) -> Result<Opened<'a>, Stop>
-    ensures opened { IfOk result (IsOpened bytes.now) }
-    ensures why { IfErr result (IsStopOf bytes.now) }
+/// The first file of a source, if its first bytes begin with one.
+pub(crate) fn open<'a>(alloc: Global, first: &'a FirstBytes) -> Result<Opened<'a>, Stop>
+    requires { first.now.ended ≡ false → HasFront first.now.bytes.items }
+    ensures opened { IfOk result (IsOpened first.now.bytes.items) }
+    ensures why { (left : Option (List ℕ)) → EndsAt first.now.ended left → IfErr result (λ why. OfLeft left (λ more. IsStopOf (first.now.bytes.items ++ more) why)) }
 {
-    let front = match read_front(alloc, bytes) {
+    let front = match read_front(alloc, first.bytes.as_slice()) {
         Ok(front) => front,
         Err(why) => {
             let why = LoadCause::Front { why };
@@ -69,18 +71,21 @@ pub(crate) fn open<'a>(alloc: Global, bytes: &'a [u8]) -> Result<Opened<'a>, Sto
     }
 }
 
-/// The sum of the files that some bytes are, of which the first one was opened: their groups within a range, which are the only ones that
+/// The sum of the files of a source, of which the first one was opened: their groups within a range, which are the only ones that
 /// take memory.
-pub(crate) fn load_within<'a, 'k>(
+pub(crate) fn load_within<'a, 'k, S: Source>(
     alloc: Global,
-    bytes: &'a [u8],
+    first: &'a FirstBytes,
     opened: Opened<'a>,
+    source: &mut S,
     within: KeyRange<'k>,
 ) -> Result<Loaded<'a, 'k>, Stop>
-    requires { IsOpened bytes.now opened }
-    ensures loaded { IfOk result (IsLoaded (keys_of within.entry) bytes.now) }
+    requires opened { IsOpened first.now.bytes.items opened }
+    requires end { EndsAt first.now.ended (S.left source.old) }
+    ensures loaded { IfOk result (λ loaded. OfLeft (S.left source.old) (λ more. IsLoaded (keys_of within.entry) (first.now.bytes.items ++ more) loaded)) }
     ensures plan { IfOk result (λ loaded. loaded.plan ≡ opened.entry.plan) }
-    ensures why { IfErr result (IsStopOf bytes.now) }
+    ensures why { IfErr result (λ why. OfLeft (S.left source.old) (λ more. IsReadStop (first.now.bytes.items ++ more) why)) }
+    ensures read_fault { IfErr result (λ why. why ≡ stop.ReadFault → Rose (S.faults source.old) (S.faults source.new)) }
 {
     let Opened { whole, range, plan } = opened;
     let columns = plan.bound.group_columns().len() as u32;
@@ -89,26 +94,32 @@ pub(crate) fn load_within<'a, 'k>(
         range: within,
     };
     let mut sum = Sum::new(alloc, kept);
-    match add_files(alloc, &mut sum, bytes, whole, range, &plan.shape()) {
+    match add_source(alloc, &mut sum, first, source, whole, range, &plan.shape()) {
         Ok(_) => Ok(Loaded {
             whole,
             range,
             plan,
             sum,
         }),
-        Err(fault) => Err(Stop::of_load(fault)),
+        Err(why) => Err(Stop::of_source(why)),
     }
 }
 
-/// The sum of the files that some bytes are, with all groups.
-pub(crate) fn load<'a>(alloc: Global, bytes: &'a [u8]) -> Result<Loaded<'a, 'static>, Stop>
-    ensures loaded { IfOk result (IsLoaded all_keys bytes.now) }
-    ensures why { IfErr result (IsStopOf bytes.now) }
+/// The sum of the files of a source, with all groups. Some bytes were read of it already.
+pub(crate) fn load<'a, S: Source>(
+    alloc: Global,
+    first: &'a FirstBytes,
+    source: &mut S,
+) -> Result<Loaded<'a, 'static>, Stop>
+    requires { IsBegun (S.left source.old) first.now }
+    ensures loaded { IfOk result (λ loaded. OfLeft (S.left source.old) (λ more. IsLoaded all_keys (first.now.bytes.items ++ more) loaded)) }
+    ensures why { IfErr result (λ why. OfLeft (S.left source.old) (λ more. IsReadStop (first.now.bytes.items ++ more) why)) }
+    ensures read_fault { IfErr result (λ why. why ≡ stop.ReadFault → Rose (S.faults source.old) (S.faults source.new)) }
 {
-    let opened = open(alloc, bytes)?;
+    let opened = open(alloc, first)?;
     let within = KeyRange {
         low: b"",
         high: b"",
     };
-    load_within(alloc, bytes, opened, within)
+    load_within(alloc, first, opened, source, within)
 }

@@ -22,7 +22,6 @@ mod range;
 mod stop;
 
 use answer_text::{READ_FAULT, WRITE_FAULT, write_each};
-use input::read_input;
 use outcome::{one_file, table_pieces};
 use par_io::{Sink, Source, write_whole};
 pub use range::RangeWords;
@@ -137,8 +136,7 @@ fn write_range<S: Source, O: Sink>(
     ensures read_fault { IfErr result (λ why. why ≡ stop.ReadFault → Rose (S.faults source.old) (S.faults source.new)) }
     ensures write_fault { IfErr result (λ why. why ≡ stop.WriteFault → Rose (O.faults out.old) (O.faults out.new)) }
 {
-    let bytes = read_input(alloc, source)?;
-    let pieces = range_pieces(alloc, words, bytes.as_slice())?;
+    let pieces = range_pieces(alloc, words, source)?;
     write_each(out, &pieces)?;
     Ok(())
 }
@@ -153,8 +151,7 @@ fn combine<S: Source, O: Sink>(alloc: Global, source: &mut S, out: &mut O) -> Re
     ensures read_fault { IfErr result (λ why. why ≡ stop.ReadFault → Rose (S.faults source.old) (S.faults source.new)) }
     ensures write_fault { IfErr result (λ why. why ≡ stop.WriteFault → Rose (O.faults out.old) (O.faults out.new)) }
 {
-    let bytes = read_input(alloc, source)?;
-    let file = one_file(alloc, bytes.as_slice())?;
+    let file = one_file(alloc, source)?;
     write_whole(out, file.as_slice())?;
     Ok(())
 }
@@ -175,8 +172,7 @@ fn finalize<R: Threads + Sync, S: Source, O: Sink>(
     ensures read_fault { IfErr result (λ why. why ≡ stop.ReadFault → Rose (S.faults source.old) (S.faults source.new)) }
     ensures write_fault { IfErr result (λ why. why ≡ stop.WriteFault → Rose (O.faults out.old) (O.faults out.new)) }
 {
-    let bytes = read_input(alloc, source)?;
-    let pieces = table_pieces(rt, alloc, threads, bytes.as_slice())?;
+    let pieces = table_pieces(rt, alloc, threads, source)?;
     write_each(out, &pieces)?;
     Ok(())
 }

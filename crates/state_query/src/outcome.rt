@@ -1,23 +1,29 @@
 //! What the files of an input come to: one file, or the text of a table.
 
-ghost use Rattle.std.specs.Prelude.{IfErr, IfOk};
+ghost use Rattle.std.specs.Prelude.{◌≡◌, IfErr, IfOk};
+ghost use Rattle.par_io.specs.Faults.{Rose};
 ghost use Rattle.result_text.specs.Pieces.{joined};
 ghost use Rattle.state_query.specs.Inputs.{AreOneFile, IsTableOf};
-ghost use Rattle.state_query.specs.Whys.{IsStopOf};
+ghost use Rattle.state_query.specs.Whys.{IsReadStop};
+ghost use Rattle.state_query.specs.declared.stop.Stop.TheVariants as stop;
+ghost use Rattle.state_source.specs.Reading.{OfLeft};
 
-use crate::input::{Loaded, load};
+use crate::input::{Loaded, first_of, load};
 use crate::stop::Stop;
+use par_io::Source;
 use state_combine::push_combined;
 use state_finalize::{Finished, finish};
 use std::alloc::Global;
 use std::thread::Threads;
 
 /// The bytes of the file that the files of an input are as one.
-pub(crate) fn one_file(alloc: Global, bytes: &[u8]) -> Result<Vec<u8>, Stop>
-    ensures one { IfOk result (λ file. AreOneFile bytes.now file.items) }
-    ensures why { IfErr result (IsStopOf bytes.now) }
+pub(crate) fn one_file<S: Source>(alloc: Global, source: &mut S) -> Result<Vec<u8>, Stop>
+    ensures one { IfOk result (λ file. OfLeft (S.left source.old) (λ bytes. AreOneFile bytes file.items)) }
+    ensures why { IfErr result (λ why. OfLeft (S.left source.old) (λ bytes. IsReadStop bytes why)) }
+    ensures read_fault { IfErr result (λ why. why ≡ stop.ReadFault → Rose (S.faults source.old) (S.faults source.new)) }
 {
-    let loaded = load(alloc, bytes)?;
+    let first = first_of(alloc, source)?;
+    let loaded = load(alloc, &first, source)?;
     let Loaded {
         whole,
         range,
@@ -32,16 +38,18 @@ pub(crate) fn one_file(alloc: Global, bytes: &[u8]) -> Result<Vec<u8>, Stop>
 }
 
 /// The text of the table that the files of an input come to, in pieces, one after another.
-pub(crate) fn table_pieces<R: Threads + Sync>(
+pub(crate) fn table_pieces<R: Threads + Sync, S: Source>(
     rt: &R,
     alloc: Global,
     threads: usize,
-    bytes: &[u8],
+    source: &mut S,
 ) -> Result<Vec<Vec<u8>>, Stop>
-    ensures table { IfOk result (λ pieces. IsTableOf bytes.now (joined pieces.items)) }
-    ensures why { IfErr result (IsStopOf bytes.now) }
+    ensures table { IfOk result (λ pieces. OfLeft (S.left source.old) (λ bytes. IsTableOf bytes (joined pieces.items))) }
+    ensures why { IfErr result (λ why. OfLeft (S.left source.old) (λ bytes. IsReadStop bytes why)) }
+    ensures read_fault { IfErr result (λ why. why ≡ stop.ReadFault → Rose (S.faults source.old) (S.faults source.new)) }
 {
-    let loaded = load(alloc, bytes)?;
+    let first = first_of(alloc, source)?;
+    let loaded = load(alloc, &first, source)?;
     let Loaded {
         whole,
         plan,

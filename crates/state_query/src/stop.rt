@@ -10,8 +10,9 @@ ghost use Rattle.state_finalize.specs.Finished.{IsNotFinished};
 ghost use Rattle.state_load.specs.Loading.{stretches_of};
 ghost use Rattle.state_query.specs.Inputs.{HasRefusedRow, Input, IsInput, groups_in};
 ghost use Rattle.state_query.specs.Stops.{line, stop_says};
-ghost use Rattle.state_query.specs.Whys.{IsNoInput, IsStopOf, NamesNoPlan};
+ghost use Rattle.state_query.specs.Whys.{IsNoInput, IsNoSource, IsReadStop, IsStopOf, NamesNoPlan};
 ghost use Rattle.state_query.specs.declared.stop.Stop.TheVariants as stop;
+ghost use Rattle.state_source.specs.declared.adding.SourceFault.TheVariants as source_fault;
 ghost use Rattle.state_writer.specs.declared.writer.WriteError.TheVariants as variant;
 
 use answer_text::{MISUSED, NO_MEMORY, READ_FAULT, REFUSED, TOO_LARGE, WRITE_FAULT, write_pieces};
@@ -25,6 +26,7 @@ use state_finalize::FinishFault;
 use state_front::FrontFault;
 use state_load::{LoadCause, LoadFault};
 use state_plan::PlanFault;
+use state_source::SourceFault;
 use state_text::{cause_pieces, cover_pieces, gap_pieces};
 use state_total::{FirstRefused, TotalFault};
 use state_whole::{FileFault, GroupFault};
@@ -74,6 +76,18 @@ impl Stop {
             return Stop::Memory;
         }
         Stop::Load(fault)
+    }
+
+    /// The reason for a source whose files are not added.
+    pub(crate) fn of_source(why: SourceFault) -> Stop
+        ensures why { (bytes : List ℕ) → IsNoSource bytes why → IsReadStop bytes result }
+        ensures read_fault { result ≡ stop.ReadFault → why ≡ source_fault.ReadFault }
+    {
+        match why {
+            SourceFault::ReadFault => Stop::ReadFault,
+            SourceFault::Memory => Stop::Memory,
+            SourceFault::Load { fault } => Stop::of_load(fault),
+        }
     }
 
     /// The reason for a head that has no plan.

@@ -1,0 +1,2 @@
+mod Adds
+pub mod Rests
