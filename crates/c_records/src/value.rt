@@ -10,7 +10,7 @@ pub const RECORD_WORDS: usize = 16;
 /// A value of up to 16 words under a key, as a struct of C's. `count` says how many of the words are meant; no call looks
 /// at it: all 17 words are kept and given back as they were brought.
 #[repr(C)]
-#[derive(Clone, Copy, Debug, PartialEq, Eq)]
+#[derive(Clone, Copy)]
 pub struct Record {
     pub count: u64,
     pub words: [u64; RECORD_WORDS],
@@ -73,8 +73,9 @@ impl CellObject for Record {
     }
 
     fn encode(state: &Record, out: &mut [u64]) {
-        out[0] = state.count;
-        out[1..].copy_from_slice(&state.words);
+        let (count, words) = out.split_at_mut(1);
+        count[0] = state.count;
+        words.copy_from_slice(&state.words);
     }
 
     fn decode(words: &[u64]) -> Record {
