@@ -1,5 +1,5 @@
 /* lembokuj_try.h: queues of messages, and hash tables, barriers and areas of memory that many threads share, over the proved
- * libraries liblk_queue.a, liblk_table.a, liblk_barrier.a and liblk_area.a.
+ * libraries liblk_queue.a, liblk_table.a, liblk_records.a, liblk_barrier.a and liblk_area.a.
  *
  * The calls of the libraries try once and never wait. Those with _wait are loops over them here: they spin for a moment,
  * then yield the processor, then nap, half a millisecond at the most. Those with _park sleep until the other side rings a
@@ -8,9 +8,9 @@
  * shared_heap.c. lembokuj.h has more objects; it is built without the proofs. A program that takes both headers includes
  * lembokuj.h first.
  *
- * Handles. An lk_handle (one side of a queue), an lk_table_try (one caller of a table), an lk_barrier_try (one caller of a
- * barrier) and an lk_area_try (one caller of an area) are the program's own memory: two words, all zero (LK_BLANK) before the call
- * that fills them and after the one that closes them. A handle owns what it stands for. Do not copy it, but to move it: of two
+ * Handles. An lk_handle (one side of a queue), an lk_table_try or an lk_records_try (one caller of a table), an lk_barrier_try (one
+ * caller of a barrier) and an lk_area_try (one caller of an area) are the program's own memory: two words, all zero (LK_BLANK)
+ * before the call that fills them and after the one that closes them. A handle owns what it stands for. Do not copy it, but to move it: of two
  * copies one has to be forgotten. The memory of a queue goes with its second side, that of a table, a barrier or an area
  * with its last caller.
  *
@@ -547,6 +547,159 @@ static inline int lk_table_list_wait(lk_table_try *table, uint32_t partition, ui
     unsigned tries = 0;
     int code;
     while (lk_table_again(code = lk_table_list_try(table, partition, keys, values, room, count), &tries)) continue;
+    return code;
+}
+
+/* ---- Hash tables of records: up to 16 words under a 64-bit key, for many callers ----
+ *
+ * Words. As those of the tables above, but a new key takes 20 of them. For n keys whose hashes are spread that makes 23 n to
+ * 26 n words in all.
+ *
+ * A record is put and read as a whole, all of its 136 bytes, in one step for all callers. The library does not look at its
+ * count, which says how many of its words the program means. */
+
+enum { LK_RECORD_WORDS = 16 };
+
+typedef struct lk_record {
+    uint64_t count;
+    uint64_t words[LK_RECORD_WORDS];
+} lk_record;
+
+typedef struct lk_records_try {
+    void *at;
+    uint64_t full;
+} lk_records_try;
+
+/* What liblk_records.a exports. Each pointer has to be good, the two handles of lk_raw_records_share and the two records of a put
+ * have to differ, and what lk_raw_records_list writes has to lie apart: both rows and the count. */
+int32_t lk_raw_records_new(uint32_t callers, uint64_t words, lk_records_try *first);
+int32_t lk_raw_records_share(uint64_t words, lk_records_try *from, lk_records_try *next);
+int32_t lk_raw_records_put(lk_records_try *table, uint64_t key, const lk_record *value, lk_record *old);
+int32_t lk_raw_records_put_absent(lk_records_try *table, uint64_t key, const lk_record *value, lk_record *old);
+int32_t lk_raw_records_get(lk_records_try *table, uint64_t key, lk_record *value);
+int32_t lk_raw_records_delete(lk_records_try *table, uint64_t key, lk_record *old);
+int32_t lk_raw_records_count(lk_records_try *table, uint32_t partition, uint64_t *keys);
+int32_t lk_raw_records_list(lk_records_try *table, uint32_t partition, uint64_t *keys, size_t keys_room, lk_record *values, size_t values_room, uint64_t *count);
+int32_t lk_raw_records_close(lk_records_try *table);
+
+/* A record of these words, of which there are at most 16: else LK_BAD_SIZE. Its further words are 0. */
+static inline int lk_record_of(const uint64_t *words, size_t count, lk_record *value) {
+    if (!value || (!words && count)) return LK_NULL;
+    if (count > LK_RECORD_WORDS) return LK_BAD_SIZE;
+    lk_record made = {count, {0}};
+    for (size_t n = 0; n < count; n++) made.words[n] = words[n];
+    *value = made;
+    return LK_OK;
+}
+
+/* As lk_table_new_try and lk_table_share_try. */
+static inline int lk_records_new_try(uint32_t callers, uint64_t words, lk_records_try *first) {
+    return first ? lk_raw_records_new(callers, words, first) : LK_NULL;
+}
+
+static inline int lk_records_share_try(lk_records_try *from, uint64_t words, lk_records_try *next) {
+    if (!from || !next) return LK_NULL;
+    if (from == next) return LK_IN_USE;
+    return lk_raw_records_share(words, from, next);
+}
+
+/* Puts a record under a key. LK_OK: the key was there, and *old (which may be NULL) is its record before. LK_ABSENT: it was not.
+ * LK_WOULD_BLOCK and LK_GROWN: call again. LK_NO_SPACE: a new key, or its partition, has no room. LK_NO_MEMORY: none for the
+ * places of what the caller keeps, and nothing was done. LK_BAD_SIZE: its count is above 16. LK_IN_USE: both pointers are one. */
+static inline int lk_records_put_try(lk_records_try *table, uint64_t key, const lk_record *value, lk_record *old) {
+    lk_record none = {0, {0}};
+    if (!table || !value) return LK_NULL;
+    if (value == old) return LK_IN_USE;
+    if (value->count > LK_RECORD_WORDS) return LK_BAD_SIZE;
+    return lk_raw_records_put(table, key, value, old ? old : &none);
+}
+
+/* Puts a record under a key that is not there. LK_ABSENT: it was not, and has this record now. LK_OK: it was there, and keeps its
+ * record, which is *old (which may be NULL). The other codes as above. */
+static inline int lk_records_put_absent_try(lk_records_try *table, uint64_t key, const lk_record *value, lk_record *old) {
+    lk_record none = {0, {0}};
+    if (!table || !value) return LK_NULL;
+    if (value == old) return LK_IN_USE;
+    if (value->count > LK_RECORD_WORDS) return LK_BAD_SIZE;
+    return lk_raw_records_put_absent(table, key, value, old ? old : &none);
+}
+
+/* LK_OK: *value is the key's record. LK_ABSENT: there is no such key. LK_WOULD_BLOCK. */
+static inline int lk_records_get_try(lk_records_try *table, uint64_t key, lk_record *value) {
+    return table && value ? lk_raw_records_get(table, key, value) : LK_NULL;
+}
+
+/* Takes a key out. LK_OK: it was there, and *old (which may be NULL) was its record. LK_ABSENT, LK_WOULD_BLOCK, LK_NO_MEMORY. */
+static inline int lk_records_delete_try(lk_records_try *table, uint64_t key, lk_record *old) {
+    lk_record none = {0, {0}};
+    return table ? lk_raw_records_delete(table, key, old ? old : &none) : LK_NULL;
+}
+
+/* As lk_table_count_try and lk_table_list_try; the library takes 184 bytes for each entry of a listing, until the call ends. */
+static inline int lk_records_count_try(lk_records_try *table, uint32_t partition, uint64_t *keys) {
+    return table && keys ? lk_raw_records_count(table, partition, keys) : LK_NULL;
+}
+
+static inline int lk_records_list_try(lk_records_try *table, uint32_t partition, uint64_t *keys, lk_record *values, size_t room, uint64_t *count) {
+    uint64_t no_key = 0;
+    lk_record none = {0, {0}};
+    if (!table || !count || ((!keys || !values) && room)) return LK_NULL;
+    return lk_raw_records_list(table, partition, keys ? keys : &no_key, room, values ? values : &none, room, count);
+}
+
+/* The caller goes, and the handle is blank. */
+static inline int lk_records_close_try(lk_records_try *table) {
+    return table ? lk_raw_records_close(table) : LK_NULL;
+}
+
+/* The same calls, again and again as long as another caller had the partition, or it had to grow. */
+static inline int lk_records_put_wait(lk_records_try *table, uint64_t key, const lk_record *value, lk_record *old) {
+    unsigned tries = 0;
+    int code;
+    while (lk_table_again(code = lk_records_put_try(table, key, value, old), &tries)) continue;
+    return code;
+}
+
+static inline int lk_records_put_absent_wait(lk_records_try *table, uint64_t key, const lk_record *value, lk_record *old) {
+    unsigned tries = 0;
+    int code;
+    while (lk_table_again(code = lk_records_put_absent_try(table, key, value, old), &tries)) continue;
+    return code;
+}
+
+static inline int lk_records_get_wait(lk_records_try *table, uint64_t key, lk_record *value) {
+    unsigned tries = 0;
+    int code;
+    while (lk_table_again(code = lk_records_get_try(table, key, value), &tries)) continue;
+    return code;
+}
+
+static inline int lk_records_delete_wait(lk_records_try *table, uint64_t key, lk_record *old) {
+    unsigned tries = 0;
+    int code;
+    while (lk_table_again(code = lk_records_delete_try(table, key, old), &tries)) continue;
+    return code;
+}
+
+/* LK_OK: *keys is how many keys the table has, partition by partition, each at its own moment. */
+static inline int lk_records_count_wait(lk_records_try *table, uint64_t *keys) {
+    uint64_t sum = 0, some = 0;
+    if (!table || !keys) return LK_NULL;
+    for (uint32_t partition = 0; partition < LK_PARTITIONS; partition++) {
+        unsigned tries = 0;
+        int code;
+        while (lk_table_again(code = lk_records_count_try(table, partition, &some), &tries)) continue;
+        if (code != LK_OK) return code;
+        sum += some;
+    }
+    *keys = sum;
+    return LK_OK;
+}
+
+static inline int lk_records_list_wait(lk_records_try *table, uint32_t partition, uint64_t *keys, lk_record *values, size_t room, uint64_t *count) {
+    unsigned tries = 0;
+    int code;
+    while (lk_table_again(code = lk_records_list_try(table, partition, keys, values, room, count), &tries)) continue;
     return code;
 }
 

@@ -1,0 +1,5 @@
+pub mod Handles
+pub mod Looks
+pub mod Owned
+pub mod Shares
+pub mod Tries

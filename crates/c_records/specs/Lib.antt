@@ -1,0 +1,9 @@
+pub mod Values
+pub mod Items
+pub mod Shares
+pub mod Tries
+pub mod Looks
+pub mod Made
+pub mod Codes
+pub mod Owned
+pub mod Calls

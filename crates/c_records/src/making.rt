@@ -1,0 +1,103 @@
+//! How a table is made, and how a further caller comes to it.
+
+ghost use Rattle.std.specs.Prelude.{◌≡◌, ◌+◌, ◌≤◌, ◌<◌, IfOk, IfErr, length};
+ghost use Rattle.c_records.specs.Made.{IsFirst, IsFurther};
+ghost use Rattle.c_table.specs.Made.{IsRefused};
+
+use crate::caller::Caller;
+use crate::shared::{Share, Shared};
+use c_table::{Code, Reserve, new_slices};
+use dshash_core::PARTITIONS;
+use dshash_parts::Dshash;
+use region_words::Region;
+use std::alloc::{AllocError, Global};
+use std::sync::Arc;
+
+/// The most callers of a table.
+const MOST_CALLERS: u32 = 4096;
+
+/// The words of a table besides its callers': one that is no place, and a slice of each partition.
+const OWN_WORDS: u64 = 129;
+
+/// The most words of a region.
+const MOST_WORDS: u64 = 67_108_864;
+
+/// An empty table for this many callers in its own region, with this many words for them.
+#[tactic(auto, using(word_map::proofs::Maps::answers, std::proofs::lemmas::Bool::Decides::nat_tests))]
+fn assemble(alloc: Global, callers: u32, words: u64) -> Result<Caller, AllocError>
+    requires callers { 1 ≤ callers }
+    requires few { words + 129 ≤ 67108864 }
+    ensures { IfOk result (λ c. IsFirst callers words c) }
+{
+    let (region, part) = Region::new(alloc, (words + OWN_WORDS) as usize)?;
+    let mut reserve = Reserve::of_part(part, 1, words + u64::from(PARTITIONS));
+    let slices = new_slices(alloc, &region, &mut reserve)?;
+    let (table, mut others) = Dshash::on_slices(alloc, &region, slices, 1, callers)?;
+    let Some(pass) = others.pop() else {
+        unreachable!()
+    };
+    let shared = Arc::new(alloc, Shared { region, table })?;
+    Ok(Caller {
+        share: Share {
+            shared,
+            pass,
+            others,
+            reserve,
+            items: Vec::new(alloc),
+            slices: Vec::new(alloc),
+        },
+    })
+}
+
+/// An empty table of records under keys of one word, for this many callers, and the first of them, which has all words
+/// that are brought: each new key takes 20, and a partition that grows to `n` buckets `n`. It takes memory for the
+/// words, the locks and the passes.
+pub fn new_table(alloc: Global, callers: u32, words: u64) -> Result<Caller, Code>
+    ensures made { IfOk result (λ c. IsFirst callers words c) }
+    ensures refused { IfErr result (λ code. IsRefused callers words code) }
+{
+    if callers == 0 || callers > MOST_CALLERS {
+        return Err(Code::BadCallers);
+    }
+    if words > MOST_WORDS - OWN_WORDS {
+        return Err(Code::BadSize);
+    }
+    match assemble(alloc, callers, words) {
+        Ok(caller) => Ok(caller),
+        Err(_) => Err(Code::NoMemory),
+    }
+}
+
+impl Caller {
+    /// A further caller, which gets this many of this one's words.
+    pub fn share(&mut self, alloc: Global, words: u64) -> Result<Caller, Code>
+        ensures { IsFurther words self.old self.new result }
+    {
+        let share = &mut self.share;
+        if share.others.is_empty() {
+            return Err(Code::BadCallers);
+        }
+        if words == 0 || share.reserve.left() < words {
+            return Err(Code::NoSpace);
+        }
+        let Ok(shared) = Arc::try_clone(&share.shared) else {
+            return Err(Code::NoMemory);
+        };
+        let Some(pass) = share.others.pop() else {
+            unreachable!()
+        };
+        let Some(chunk) = share.reserve.cut(&shared.region, words) else {
+            unreachable!()
+        };
+        Ok(Caller {
+            share: Share {
+                shared,
+                pass,
+                others: Vec::new(alloc),
+                reserve: Reserve::of_chunk(chunk),
+                items: Vec::new(alloc),
+                slices: Vec::new(alloc),
+            },
+        })
+    }
+}
