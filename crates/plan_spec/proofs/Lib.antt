@@ -9,5 +9,6 @@ pub mod Numbers
 pub mod Parsed
 pub mod Places
 pub mod Relations
+mod Texts
 pub mod Values
 pub mod Plain
