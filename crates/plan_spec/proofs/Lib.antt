@@ -1,3 +1,4 @@
+pub mod Arguments
 pub mod Entries
 pub mod ItemNames
 pub mod Fills
@@ -9,5 +10,6 @@ pub mod Numbers
 pub mod Parsed
 pub mod Places
 pub mod Relations
+mod Texts
 pub mod Values
 pub mod Plain

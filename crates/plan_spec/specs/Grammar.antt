@@ -83,10 +83,13 @@ bare_number_in places text = if list_any (λ byte. byte == 32) text then None el
 abbrev pub is_quoted : List ℕ → Bool
 is_quoted text = nat_le 2 (length text) && ((slice_index text 0 == 34) && (slice_index text (length text - 1) == 34))
 
--- the text that comes after a relation: what is between double quotes, and without them all, if it begins with no
--- relation's byte
+-- a text that may come without double quotes: it begins with no relation's byte, and if it has a space it has none at all
+abbrev pub is_bare : List ℕ → Bool
+is_bare text = not (is_relation_byte (slice_index text 0)) && not (list_any (λ byte. byte == 32) text && list_any is_relation_byte text)
+
+-- the text that comes after a relation: what is between double quotes, and without them all, if it may come so
 abbrev pub text_in : List ℕ → Option (List ℕ)
-text_in text = if is_quoted text then Some (slice_range text 1 (length text - 1)) else (if is_relation_byte (slice_index text 0) then None else Some text)
+text_in text = if is_quoted text then Some (slice_range text 1 (length text - 1)) else (if is_bare text then Some text else None)
 
 -- such a text that is not too long
 abbrev pub short_text_in : List ℕ → Option (List ℕ)

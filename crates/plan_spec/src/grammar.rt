@@ -6,7 +6,7 @@ ghost use Rattle.std.specs.List.{count_by, list_any, position_or_len};
 ghost use Rattle.std.specs.Option.{option_map_or};
 ghost use Rattle.par_model.specs.Columns.{reads_column};
 ghost use Rattle.par_model.specs.Table.{kind_text};
-ghost use Rattle.plan_spec.specs.Grammar.{Places, bare_number_in, entry_in, filter_in, filter_over, filters_in, hash_in, is_relation_byte, is_separator, item_in, item_over, items_in, kind_in, names_in, nulls_in, number_in, parts_of, places_in, places_of, relation_in, separator_in, short_text_in, test_in, text_in, text_test};
+ghost use Rattle.plan_spec.specs.Grammar.{Places, bare_number_in, entry_in, filter_in, filter_over, filters_in, hash_in, is_bare, is_relation_byte, is_separator, item_in, item_over, items_in, kind_in, names_in, nulls_in, number_in, parts_of, places_in, places_of, relation_in, separator_in, short_text_in, test_in, text_in, text_test};
 ghost use Rattle.csv_rows.specs.Readings.{IsSeparator};
 ghost use Rattle.plan_spec.specs.Given.{entry_of};
 ghost use Rattle.plan_spec.specs.declared.plan.PlanAnswer.TheVariants as answer;
@@ -383,15 +383,32 @@ fn short_text(text: &[u8]) -> Option<Text>
     Text::of(bare_text(text)?)
 }
 
-/// The text after a relation: what is between double quotes, or all, if it begins with no relation's byte.
+/// The text after a relation: what is between double quotes, or all, if it may come without them.
 fn bare_text(text: &[u8]) -> Option<&[u8]>
     ensures { option_map (λ found. found.now) result ≡ text_in text.now }
 {
     match text {
         [b'"', inner @ .., b'"'] => Some(inner),
-        [first, ..] if is_relation(*first) => None,
-        _ => Some(text),
+        _ if is_bare(text) => Some(text),
+        _ => None,
     }
+}
+
+/// Whether a text may come without double quotes: it begins with no relation's byte, and if it has a space it has none at all.
+fn is_bare(text: &[u8]) -> bool
+    ensures { result ≡ is_bare text.now }
+{
+    match text {
+        [first, ..] if is_relation(*first) => false,
+        _ => !(text.contains(&b' ') && has_relation(text)),
+    }
+}
+
+/// Whether a text has a relation's byte.
+fn has_relation(text: &[u8]) -> bool
+    ensures { result ≡ list_any is_relation_byte text.now }
+{
+    text.iter().any(|byte| is_relation(*byte))
 }
 
 /// Reads a relation. Returns it and what comes after it.

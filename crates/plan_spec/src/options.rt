@@ -5,8 +5,8 @@
 
 ghost use Rattle.std.specs.Prelude.{◌≡◌, IfOk, None, OnOk, bytes_eq, codes, map, option_map, option_to_list, false, true, string_bytes};
 ghost use Rattle.std.specs.Option.{option_map_or};
-ghost use Rattle.clap.specs.Words.{app_of, found_of, is_simple_and_free, matches_of, rows_of, with_rule};
-ghost use Rattle.plan_spec.specs.Options.{asking_command, flag_in, flag_of, is_command_line, option_of, pargather_command, parstream_command, reading_command, value_of, values_of};
+ghost use Rattle.clap.specs.Words.{app_of, found_of, is_simple_and_free, matches_of, new_app, rows_of, with_rule};
+ghost use Rattle.plan_spec.specs.Options.{asking_command, bare, flag_in, flag_of, is_command_line, option_of, pargather_command, parstream_command, reading_command, repeated_of, value_of, values_of};
 ghost use Rattle.plan_spec.specs.declared.plan.PlanAnswer.TheVariants as answer;
 
 use crate::PlanAnswer;
@@ -158,7 +158,7 @@ fn matches_in<'a>(command: Command<'a>, words: &'a [String]) -> Result<ArgMatche
 fn pargather<'a>(alloc: Global) -> Result<Command<'a>, AllocError>
     ensures { IfOk result (λ c. app_of c ≡ pargather_command) }
 {
-    let bare = Command::new(alloc, "pargather").no_binary_name(true);
+    let bare = bare_command(alloc, "pargather");
     let grouped = with_option(alloc, bare, "group", false)?;
     let summed = with_option(alloc, grouped, "agg", true)?;
     let filtered = with_option(alloc, summed, "where", false)?;
@@ -179,14 +179,10 @@ fn parstream<'a>(alloc: Global) -> Result<Command<'a>, AllocError>
 fn asking_options<'a>(alloc: Global) -> Result<Command<'a>, AllocError>
     ensures { IfOk result (λ c. app_of c ≡ asking_command) }
 {
-    let bare = Command::new(alloc, "parstream").no_binary_name(true);
+    let bare = bare_command(alloc, "parstream");
     let grouped = with_option(alloc, bare, "group", false)?;
     let summed = with_option(alloc, grouped, "agg", true)?;
-    let filtered = summed.arg(
-        Arg::new(alloc, "where")
-            .long("where")
-            .action(ArgAction::Append),
-    )?;
+    let filtered = with_list(alloc, summed, "where")?;
     let staffed = with_option(alloc, filtered, "workers", false)?;
     with_option(alloc, staffed, "decimals", false)
 }
@@ -198,6 +194,24 @@ fn with_reading<'a>(alloc: Global, command: Command<'a>) -> Result<Command<'a>, 
     let parted = with_option(alloc, command, "separator", false)?;
     let emptied = with_option(alloc, parted, "null", false)?;
     with_flag(alloc, emptied, "trim")
+}
+
+/// A command with no options, for words with no program name before them.
+fn bare_command<'a>(alloc: Global, name: &'a str) -> Command<'a>
+    ensures { app_of result ≡ bare (new_app name.entry.now) }
+{
+    Command::new(alloc, name).no_binary_name(true)
+}
+
+/// A command with one more option, which takes a value each time it is given.
+fn with_list<'a>(
+    alloc: Global,
+    command: Command<'a>,
+    name: &'a str,
+) -> Result<Command<'a>, AllocError>
+    ensures { IfOk result (λ c. app_of c ≡ with_rule (app_of command.entry) (repeated_of name.entry.now)) }
+{
+    command.arg(Arg::new(alloc, name).long(name).action(ArgAction::Append))
 }
 
 /// A command with one more option, which takes no value.
