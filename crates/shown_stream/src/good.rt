@@ -5,7 +5,7 @@ ghost use Rattle.std.specs.Io.KnownBytes.{Appends};
 ghost use Rattle.answer_text.specs.Lines.{IsSaid};
 ghost use Rattle.answer_text.specs.Words.{texts};
 ghost use Rattle.good_groups.specs.declared.reading.LeftOut.{LeftOut};
-ghost use Rattle.good_stream.specs.Good.{LeavesOut, TellsOfGood};
+ghost use Rattle.good_stream.specs.Good.{HasNoGoodText, LeavesOut, TellsOfGood};
 ghost use Rattle.par_io.specs.Faults.{Rose};
 ghost use Rattle.plan_spec.specs.Query.{stream_query_of};
 ghost use Rattle.shown_stream.specs.Ended.{EndsFor, PutsPart, PutsShown, SaysWrong};
@@ -22,7 +22,7 @@ use crate::kept::{end_kept, say_bytes};
 use crate::text::Text;
 use good_stream::good_table;
 use par_io::{Sink, Source};
-use par_stream::{Progress, READ_FAULT, Separated, TABLE, WRITE_FAULT};
+use par_stream::{Progress, READ_FAULT, REFUSED, Separated, TABLE, WRITE_FAULT};
 use shown_words::{Taken, asked_of};
 use std::alloc::{AllocError, Global};
 use std::sync::Wait;
@@ -62,6 +62,9 @@ pub fn shown_good<R: Threads + Wait + Sync, S: Source, O: Sink, E: Sink, P: Prog
     // is left out, or a write of the table failed.
     ensures why { (result ≢ TABLE) → IfOk (how_in (taken_as taken.now)) (λ _. (why : Stop) × TellsOfGood (stream_query_of (taken_as taken.now).rest) (bare_left S.left source.old) why × (result ≡ (stop_says why).0)
         × IsSaid (E.taken err.old) (E.taken err.new) (E.faults err.old) (E.faults err.new) (line (stop_says why).1)) }
+
+    // A row is named only if more of them are refused than may be left out, or a record is too long.
+    ensures many { result ≡ REFUSED → IfSome (bare_left S.left source.old) (HasNoGoodText (skip_in (taken_as taken.now)) (stream_query_of (taken_as taken.now).rest)) }
     ensures read_fault { result ≡ READ_FAULT → Rose (bare_faults S.faults source.old) (bare_faults S.faults source.new) }
     ensures write_fault { result ≡ WRITE_FAULT → Rose (O.faults out.old) (O.faults out.new) }
 
@@ -115,6 +118,7 @@ fn show_good<R: Threads + Wait + Sync, S: Source, O: Sink, E: Sink, P: Progress>
 ) -> u8
     ensures why { (result ≢ TABLE) → (why : Stop) × TellsOfGood (stream_query_of (texts words.now)) (bare_left S.left source.old) why × (result ≡ (stop_says why).0)
         × IsSaid (E.taken err.old) (E.taken err.new) (E.faults err.old) (E.faults err.new) (line (stop_says why).1) }
+    ensures many { result ≡ REFUSED → IfSome (bare_left S.left source.old) (HasNoGoodText most (stream_query_of (texts words.now))) }
     ensures read_fault { result ≡ READ_FAULT → Rose (bare_faults S.faults source.old) (bare_faults S.faults source.new) }
     ensures write_fault { result ≡ WRITE_FAULT → Rose (O.faults out.old) (O.faults out.new) }
     ensures told { result ≡ TABLE → (left_out : Option LeftOut) × LeavesOut most (stream_query_of (texts words.now)) (bare_left S.left source.old) left_out

@@ -1,4 +1,4 @@
-use Rattle.std.proofs.Common.{◌∙◌, Some, ap}
+use Rattle.std.proofs.Common.{◌∙◌, ap}
 use Rattle.answer_text.specs.Words.{texts}
 use Rattle.plan_spec.specs.Query.{stream_query_of}
 use Rattle.stream_groups.specs.Sources.{bare_left}
