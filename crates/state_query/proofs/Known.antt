@@ -35,7 +35,7 @@ pub no_write : (o : Option (List ℕ)) (why : Stop) → OfLeft o (λ bytes. IsRe
 no_write o why is e = by is.2
   where
     by : IsReadStop is.0 why → ⊥
-    by (inl f) = let no : stop.ReadFault ≡ stop.WriteFault = sym f ∙ e in absurd no
+    by (inl f) = let no : stop.ReadFault ≡ stop.WriteFault = sym f ∙ e in absurd cc
     by (inr f) = subst (IsStopOf is.0) e f
 
 -- ---- results

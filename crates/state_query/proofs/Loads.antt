@@ -16,7 +16,7 @@ use Rattle.state_plan.specs.FilePlans.{AskFor, HasNoPlan, IsPlanOf, header_of}
 use Rattle.state_plan.specs.declared.file_plan.FilePlan.{FilePlan}
 use Rattle.state_plan.specs.declared.file_plan.PlanFault.{PlanFault}
 use Rattle.state_source.specs.Adding.{IsFaultOf}
-use Rattle.state_source.specs.Reading.{EndsAt, HasFront, OfLeft}
+use Rattle.state_source.specs.Reading.{EndsAt, HasFront, IsNoLoad, OfLeft}
 use Rattle.state_source.specs.declared.adding.SourceFault.{SourceFault}
 use Rattle.state_source.specs.declared.adding.SourceFault.TheVariants as fault
 use Rattle.state_source.proofs.Rests.{of_any, of_end}
@@ -101,6 +101,11 @@ pub source_wrong : (bytes : List ℕ) (opened : Opened) (shape : Shape) (why : S
 source_wrong bytes opened shape fault.ReadFault is of none = tt
 source_wrong bytes opened shape fault.Memory is of none = tt
 source_wrong bytes opened shape (fault.Load at) is of none = inr (goes_wrong bytes opened shape at is of none)
+
+pub no_source : (bytes : List ℕ) (why : SourceFault) → IsNoLoad why → IsNoSource bytes why
+no_source bytes fault.ReadFault is = tt
+no_source bytes fault.Memory is = tt
+no_source bytes (fault.Load at) is = absurd is
 
 -- ---- a first file that is not opened
 

@@ -46,3 +46,15 @@ returns-clause-why g c =
     in
     of_more (g.S.Source.left c.args.source.now) left first (λ bytes. IsReadStop bytes c.of_combine.result) c.in_ok-first.ensures.reads
     (of_as left (λ more. IsLoaded all_keys (first ++ more) l) (λ more. IsReadStop (first ++ more) c.of_combine.result) (λ more is. inr (stop_by (first ++ more) is)) c.in_ok-loaded.ensures.loaded)
+
+pub returns-clause-read_fault : goal.returns-clause-read_fault
+returns-clause-read_fault g c = λ e.
+    let l = c.in_ok-loaded.loaded in
+    let shape = c.shape.result in
+    let bytes = c.in_ok-first.first.bytes.items ++ c.in_ok-loaded.ensures.loaded.0 in
+    let is = c.in_ok-loaded.ensures.loaded.2 in
+    let of = c.shape.ensures.of_plan is.input.subject is.is_plan in
+    let stop_is = c.of_combine.ensures bytes (with_shape is.input shape) (input_by_shape bytes l shape is of) (not_combined bytes l c.in-Err.why is c.in-Err.ensures.refused)
+        (λ e. by_input bytes l shape is of (λ s k m ss. IsTooLong shape s k m ss) (c.in-Err.ensures.long (ap (λ (w : CombineFault). Err w) e)))
+    in
+    absurd (no_read bytes c.of_combine.result stop_is e)
