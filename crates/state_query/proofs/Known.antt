@@ -1,6 +1,8 @@
 -- What is known of bytes that may be known.
-use Rattle.std.proofs.Common.{◌≡◌, ◌⊎◌, ◌∙◌, Err, IfErr, IfOk, Ok, Result, ℕ, List, None, Option, Some, inl, inr, subst, sym}
+use Rattle.std.proofs.Common.{◌≡◌, ◌⊎◌, ◌++◌, ◌∙◌, Err, IfErr, Ok, Result, ℕ, List, None, Option, Some, inl, inr, subst, sym}
+use Rattle.std.specs.Io.KnownBytes.{Consumes}
 use Rattle.std.specs.Prelude.{IfSome}
+use Rattle.state_source.proofs.Rests.{of_as, of_more}
 use Rattle.state_source.specs.Reading.{OfLeft}
 use Rattle.state_query.specs.Ranges.{IsRangeReadStop, IsRangeWhy}
 use Rattle.state_query.specs.Whys.{IsReadStop, IsStopOf, IsWhy}
@@ -26,6 +28,16 @@ range_read above below bytes why (inr is) = inr (inr is)
 pub range_why_known : (o : Option (List ℕ)) (above below : List ℕ) (why : Stop) → OfLeft o (λ bytes. IsRangeReadStop above below bytes why) → IfSome o (λ bytes. IsRangeWhy above below bytes why)
 range_why_known o above below why is = if_known o (λ bytes. IsRangeReadStop above below bytes why) (λ bytes. IsRangeWhy above below bytes why) (λ bytes. range_read above below bytes why) is
 
+-- a reason of the bytes of a source is one of words and bytes
+to_range : (above below bytes : List ℕ) (why : Stop) → IsReadStop bytes why → IsRangeReadStop above below bytes why
+to_range above below bytes why (inl e) = inl e
+to_range above below bytes why (inr is) = inr (inr is)
+
+pub ranged : (was left : Option (List ℕ)) (above below first : List ℕ) (why : Stop) → Consumes was left first → OfLeft left (λ more. IsReadStop (first ++ more) why) → OfLeft was (λ bytes. IsRangeReadStop above below bytes why)
+ranged was left above below first why read is =
+    of_more was left first (λ bytes. IsRangeReadStop above below bytes why) read
+    (of_as left (λ more. IsReadStop (first ++ more) why) (λ more. IsRangeReadStop above below (first ++ more) why) (λ more. to_range above below (first ++ more) why) is)
+
 -- ---- what is no reason of some bytes
 
 pub no_read : (bytes : List ℕ) (why : Stop) → IsStopOf bytes why → why ≡ stop.ReadFault → ⊥
@@ -39,10 +51,6 @@ no_write o why is e = by is.2
     by (inr f) = subst (IsStopOf is.0) e f
 
 -- ---- results
-
-pub ok_as : {T E : Type 0} (r : Result T E) (P Q : T → Type 0) → ((x : T) → P x → Q x) → IfOk r P → IfOk r Q
-ok_as (Ok x) P Q also is = also x is
-ok_as (Err e) P Q also is = tt
 
 pub err_as : {T E : Type 0} (r : Result T E) (P Q : E → Type 0) → ((x : E) → P x → Q x) → IfErr r P → IfErr r Q
 err_as (Ok x) P Q also is = tt

@@ -30,8 +30,8 @@ returns-in-Ok-clause-one g c =
     let left = g.S.Source.left c.first_of.new.source in
     of_more (g.S.Source.left c.args.source.now) left first (λ bytes. AreOneFile bytes out) c.in_ok-first.ensures.reads
     (of_as left (λ more. IsLoaded all_keys (first ++ more) l) (λ more. AreOneFile (first ++ more) out)
-     (λ more is. one_file (first ++ more) l shape file.0 out is (c.shape.ensures.of_plan is.input.subject is.is_plan) file.1 (file.2 ∙ ap (λ (bs : List ℕ). bs ++ file_bytes shape.kinds.now file.0) c.new-file.ensures.items))
-     c.in_ok-loaded.ensures.loaded)
+    (λ more is. one_file (first ++ more) l shape file.0 out is (c.shape.ensures.of_plan is.input.subject is.is_plan) file.1 (file.2 ∙ ap (λ (bs : List ℕ). bs ++ file_bytes shape.kinds.now file.0) c.new-file.ensures.items))
+    c.in_ok-loaded.ensures.loaded)
 
 pub returns-clause-why : goal.returns-clause-why
 returns-clause-why g c =
@@ -40,9 +40,9 @@ returns-clause-why g c =
     let shape = c.shape.result in
     let left = g.S.Source.left c.first_of.new.source in
     let stop_by : (bytes : List ℕ) → IsLoaded all_keys bytes l → IsStopOf bytes c.of_combine.result = λ bytes is.
-        let of = c.shape.ensures.of_plan is.input.subject is.is_plan in
-        c.of_combine.ensures bytes (with_shape is.input shape) (input_by_shape bytes l shape is of) (not_combined bytes l c.in-Err.why is c.in-Err.ensures.refused)
-        (λ e. by_input bytes l shape is of (λ s k m ss. IsTooLong shape s k m ss) (c.in-Err.ensures.long (ap (λ (w : CombineFault). Err w) e)))
+    let of = c.shape.ensures.of_plan is.input.subject is.is_plan in
+    c.of_combine.ensures bytes (with_shape is.input shape) (input_by_shape bytes l shape is of) (not_combined bytes l c.in-Err.why is c.in-Err.ensures.refused)
+    (λ e. by_input bytes l shape is of (λ s k m ss. IsTooLong shape s k m ss) (c.in-Err.ensures.long (ap (λ (w : CombineFault). Err w) e)))
     in
     of_more (g.S.Source.left c.args.source.now) left first (λ bytes. IsReadStop bytes c.of_combine.result) c.in_ok-first.ensures.reads
     (of_as left (λ more. IsLoaded all_keys (first ++ more) l) (λ more. IsReadStop (first ++ more) c.of_combine.result) (λ more is. inr (stop_by (first ++ more) is)) c.in_ok-loaded.ensures.loaded)
@@ -55,6 +55,6 @@ returns-clause-read_fault g c = λ e.
     let is = c.in_ok-loaded.ensures.loaded.2 in
     let of = c.shape.ensures.of_plan is.input.subject is.is_plan in
     let stop_is = c.of_combine.ensures bytes (with_shape is.input shape) (input_by_shape bytes l shape is of) (not_combined bytes l c.in-Err.why is c.in-Err.ensures.refused)
-        (λ e. by_input bytes l shape is of (λ s k m ss. IsTooLong shape s k m ss) (c.in-Err.ensures.long (ap (λ (w : CombineFault). Err w) e)))
+    (λ e. by_input bytes l shape is of (λ s k m ss. IsTooLong shape s k m ss) (c.in-Err.ensures.long (ap (λ (w : CombineFault). Err w) e)))
     in
     absurd (no_read bytes c.of_combine.result stop_is e)

@@ -28,7 +28,7 @@ returns-in-Ok-Refused-clause-why g c =
     let finished = subst (λ (f : Finished). IsFinished l.plan.plan.plan l.plan.bound l.whole.sources l.sum.map l.sum.cover.items f) c.in-Ok-Refused.field-0-is c.in-Ok-Refused.ensures.finished in
     of_more (g.S.Source.left c.args.source.now) left first (λ bytes. IsReadStop bytes result) c.in_ok-first.ensures.reads
     (of_as left (λ more. IsLoaded all_keys (first ++ more) l) (λ more. IsReadStop (first ++ more) result)
-     (λ more is. inr (c.of_row.ensures (first ++ more) is.input is.is_input (sym is.query_is) (has_row (first ++ more) l c.in-Ok-Refused.row is finished))) c.in_ok-loaded.ensures.loaded)
+    (λ more is. inr (c.of_row.ensures (first ++ more) is.input is.is_input (sym is.query_is) (has_row (first ++ more) l c.in-Ok-Refused.row is finished))) c.in_ok-loaded.ensures.loaded)
 
 pub returns-in-Ok-Refused-clause-read_fault : goal.returns-in-Ok-Refused-clause-read_fault
 returns-in-Ok-Refused-clause-read_fault g c = λ e.
@@ -46,7 +46,7 @@ returns-clause-why g c =
     let result = c.of_finish.result in
     of_more (g.S.Source.left c.args.source.now) left first (λ bytes. IsReadStop bytes result) c.in_ok-first.ensures.reads
     (of_as left (λ more. IsLoaded all_keys (first ++ more) l) (λ more. IsReadStop (first ++ more) result)
-     (λ more is. inr (c.of_finish.ensures (first ++ more) is.input is.is_input (not_finished (first ++ more) l c.in-Err.why is c.in-Err.ensures.refused))) c.in_ok-loaded.ensures.loaded)
+    (λ more is. inr (c.of_finish.ensures (first ++ more) is.input is.is_input (not_finished (first ++ more) l c.in-Err.why is c.in-Err.ensures.refused))) c.in_ok-loaded.ensures.loaded)
 
 pub returns-clause-read_fault : goal.returns-clause-read_fault
 returns-clause-read_fault g c = λ e.
