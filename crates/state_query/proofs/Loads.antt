@@ -1,23 +1,32 @@
 -- What is loaded of an input.
-use Rattle.std.proofs.Common.{◌≡◌, ◌<◌, ◌++◌, ℕ, List, [], ◌∷◌, ap, arith, length, length-append, refl, subst, sym, ◌∙◌}
+use Rattle.std.proofs.Common.{◌≡◌, ◌<◌, ◌++◌, ℕ, Bool, false, true, List, Option, [], ◌∷◌, ap, append_assoc, append-nil, arith, inr, length, length-append, refl, subst, sym, ◌∙◌}
+use Rattle.std.proofs.KnownBytes.{Consumes-nil}
 use Rattle.std.specs.FinMap as map
 use Rattle.par_model.specs.Named.{bound_plan}
 use Rattle.par_model.specs.Plan.{Plan}
-use Rattle.state_front.specs.Front.{front_bytes, name_bytes}
+use Rattle.state_front.specs.Front.{IsFront, IsNoFront, front_bytes, name_bytes}
+use Rattle.state_front.specs.declared.title.FrontFault.{FrontFault}
+use Rattle.state_front.specs.declared.title.FrontFault.TheVariants as front_fault
 use Rattle.state_head.specs.Head.{Preface, Subject, subject_of}
 use Rattle.state_head.specs.Words.{Keys, keys_of}
 use Rattle.state_load.specs.Faults.{AreNoParts}
 use Rattle.state_load.specs.Loading.{AreAdded, files_bytes}
 use Rattle.state_load.specs.declared.loading.LoadFault.{LoadFault}
-use Rattle.state_plan.specs.FilePlans.{AskFor, IsPlanOf, header_of}
+use Rattle.state_plan.specs.FilePlans.{AskFor, HasNoPlan, IsPlanOf, header_of}
 use Rattle.state_plan.specs.declared.file_plan.FilePlan.{FilePlan}
+use Rattle.state_plan.specs.declared.file_plan.PlanFault.{PlanFault}
+use Rattle.state_source.specs.Adding.{IsFaultOf}
+use Rattle.state_source.specs.Reading.{EndsAt, HasFront, IsNoLoad, OfLeft}
+use Rattle.state_source.specs.declared.adding.SourceFault.{SourceFault}
+use Rattle.state_source.specs.declared.adding.SourceFault.TheVariants as fault
+use Rattle.state_source.proofs.Rests.{of_any, of_end}
 use Rattle.state_whole.specs.Adding.{IsShapeOf}
 use Rattle.state_whole.specs.Files.{StateFile}
 use Rattle.state_whole.specs.declared.adding.Shape.{Shape}
 use Rattle.state_whole.specs.declared.files.Sum.{Sum}
 use Rattle.state_query.specs.Inputs.{Input, IsLoaded, IsOpened}
 use Rattle.state_query.specs.declared.input.Opened.{Opened}
-use Rattle.state_query.specs.Whys.{GoesWrong}
+use Rattle.state_query.specs.Whys.{GoesWrong, IsNoSource, NamesNoPlan}
 
 -- a front has bytes
 front_some : (p : Preface) → 0 < length (front_bytes p)
@@ -31,6 +40,18 @@ some_files shape front rest bytes [] begins is =
     let none : length bytes ≡ 0 = ap length is in
     absurd (omega (arith, some, none, ap length begins, length-append (front_bytes front) rest))
 some_files shape front rest bytes (f ∷ files) begins is = omega arith
+
+-- bytes that come after the front change nothing
+pub opened_more : (bytes more : List ℕ) (opened : Opened) → IsOpened bytes opened → IsOpened (bytes ++ more) opened
+opened_more bytes more opened is = record {
+  front = is.front;
+  is_front = is.is_front;
+  rest = is.rest ++ more;
+  begins = ap (λ (bs : List ℕ). bs ++ more) is.begins ∙ append_assoc (front_bytes is.front) is.rest more;
+  subject_is = is.subject_is;
+  keys_are = is.keys_are;
+  is_plan = is.is_plan;
+}
 
 -- the shape of a plan over the columns of a header
 pub shape_of : (s : Subject) (plan : FilePlan) (shape : Shape) → IsPlanOf s plan → IsShapeOf plan.bound shape → IsShapeOf (bound_plan (header_of plan.plan.reading s) plan.plan.plan) shape
@@ -74,3 +95,32 @@ goes_wrong bytes opened shape fault is of none =
       is_shape = subst (λ (s : Subject). IsShapeOf (bound_plan (header_of opened.plan.plan.reading s) opened.plan.plan.plan) shape) (sym is.subject_is) (shape_of (subject_of opened.whole) opened.plan shape is.is_plan of);
       none = subst (λ (s : Subject). AreNoParts shape s is.front.keys map.empty bytes fault) (sym is.subject_is) by_keys;
     }
+
+-- of a source
+pub source_wrong : (bytes : List ℕ) (opened : Opened) (shape : Shape) (why : SourceFault) → IsOpened bytes opened → IsShapeOf opened.plan.bound shape → IsFaultOf shape (subject_of opened.whole) (keys_of opened.range) map.empty bytes why → IsNoSource bytes why
+source_wrong bytes opened shape fault.ReadFault is of none = tt
+source_wrong bytes opened shape fault.Memory is of none = tt
+source_wrong bytes opened shape (fault.Load at) is of none = inr (goes_wrong bytes opened shape at is of none)
+
+pub no_source : (bytes : List ℕ) (why : SourceFault) → IsNoLoad why → IsNoSource bytes why
+no_source bytes fault.ReadFault is = tt
+no_source bytes fault.Memory is = tt
+no_source bytes (fault.Load at) is = absurd is
+
+-- ---- a first file that is not opened
+
+-- there is no front, and there will be none
+pub no_front : (first : List ℕ) (ended : Bool) (left : Option (List ℕ)) (why : FrontFault) → (ended ≡ false → HasFront first) → EndsAt ended left → IsNoFront first why
+    → ((p : Preface) (rest : List ℕ) → IsFront p → first ≡ front_bytes p ++ rest → why ≡ front_fault.Memory) → OfLeft left (λ more. IsNoFront (first ++ more) why)
+no_front first true left why front end none memory = of_end left left [] (λ more. IsNoFront (first ++ more) why) (Consumes-nil left) (end refl) (subst (λ (bs : List ℕ). IsNoFront bs why) (sym (append-nil first)) none)
+no_front first false left why front end none memory =
+    let has = front refl in
+    of_any left (λ more. IsNoFront (first ++ more) why) (λ more. subst (IsNoFront (first ++ more)) (sym (memory has.front has.rest has.is_front has.is)) tt)
+
+-- or a front without a plan
+pub no_plan : (first more rest : List ℕ) (front : Preface) (why : PlanFault) → IsFront front → first ≡ front_bytes front ++ rest → HasNoPlan front.subject why → NamesNoPlan (first ++ more) why
+no_plan first more rest front why is_front is none = record {
+  front = front;
+  begins = record { is_front = is_front; rest = rest ++ more; is = ap (λ (bs : List ℕ). bs ++ more) is ∙ append_assoc (front_bytes front) rest more };
+  none = none;
+}

@@ -1,11 +1,11 @@
 //! The files of an input, put together.
 
-ghost use Rattle.std.specs.Prelude.{◌≡◌, ◌≤◌, ◌++◌, ◌⊎◌, IfErr, IfOk, List, Option, ℕ, false};
+ghost use Rattle.std.specs.Prelude.{◌≡◌, ◌≤◌, ◌++◌, IfErr, IfOk, List, Option, ℕ, false};
 ghost use Rattle.std.specs.Io.KnownBytes.{Consumes};
 ghost use Rattle.par_io.specs.Faults.{Rose};
 ghost use Rattle.state_head.specs.Words.{keys_of};
 ghost use Rattle.state_query.specs.Inputs.{IsLoaded, IsOpened, all_keys};
-ghost use Rattle.state_query.specs.Whys.{IsReadStop, IsStopOf};
+ghost use Rattle.state_query.specs.Whys.{IsReadStop};
 ghost use Rattle.state_query.specs.declared.stop.Stop.TheVariants as stop;
 ghost use Rattle.state_source.specs.Reading.{EndsAt, HasFront, IsBegun, OfLeft};
 
@@ -40,7 +40,7 @@ pub(crate) struct Loaded<'a, 'k> {
 pub(crate) fn first_of<S: Source>(alloc: Global, source: &mut S) -> Result<FirstBytes, Stop>
     ensures reads { IfOk result (λ first. Consumes (S.left source.old) (S.left source.new) first.bytes.items) }
     ensures begun { IfOk result (IsBegun (S.left source.new)) }
-    ensures why { IfErr result (λ why. (why ≡ stop.ReadFault) ⊎ (why ≡ stop.Memory)) }
+    ensures why { IfErr result (λ why. OfLeft (S.left source.old) (λ bytes. IsReadStop bytes why)) }
     ensures read_fault { IfErr result (λ why. why ≡ stop.ReadFault → Rose (S.faults source.old) (S.faults source.new)) }
     ensures faults { S.faults source.old ≤ S.faults source.new }
 {
@@ -54,7 +54,8 @@ pub(crate) fn first_of<S: Source>(alloc: Global, source: &mut S) -> Result<First
 pub(crate) fn open<'a>(alloc: Global, first: &'a FirstBytes) -> Result<Opened<'a>, Stop>
     requires { first.now.ended ≡ false → HasFront first.now.bytes.items }
     ensures opened { IfOk result (IsOpened first.now.bytes.items) }
-    ensures why { (left : Option (List ℕ)) → EndsAt first.now.ended left → IfErr result (λ why. OfLeft left (λ more. IsStopOf (first.now.bytes.items ++ more) why)) }
+    ensures why { (left : Option (List ℕ)) → EndsAt first.now.ended left → IfErr result (λ why. OfLeft left (λ more. IsReadStop (first.now.bytes.items ++ more) why)) }
+    ensures unread { IfErr result (λ why. (why ≡ stop.ReadFault) → ⊥) }
 {
     let front = match read_front(alloc, first.bytes.as_slice()) {
         Ok(front) => front,

@@ -1,7 +1,7 @@
 //! Partial states over a source and a sink: several files as one file, and the table that the files of all parts come to.
 //!
-//! The source is read to its end before anything is written, so on each fault nothing is written but by a failed write. It may have any
-//! number of files, one after another.
+//! The source may have any number of files, one after another. Each is added as it comes and dropped before the next one is read; if one is
+//! not taken, nothing is written.
 
 #![tactic(auto)]
 
@@ -31,7 +31,7 @@ use std::thread::Threads;
 pub use stop::{BAD_STATES, MISSING, Stop, WRITTEN};
 
 /// Reads files of one query and writes them as one file, or a line to `err` that says why there is none; the exit status. Time is linear
-/// in the input but for the order of its groups; memory is the input, its groups, and the file.
+/// in the input but for the order of its groups; memory is that of all groups, of the largest file of the input, and of the file.
 pub fn combine_states<S: Source, O: Sink, E: Sink>(
     alloc: Global,
     source: &mut S,
@@ -59,8 +59,8 @@ pub fn combine_states<S: Source, O: Sink, E: Sink>(
 }
 
 /// Reads the files of all parts and writes the table that they come to, or a line to `err` that says why there is none; the exit status.
-/// The lines are made by at most this many threads. Time is linear in the input but for the order of its groups; memory is the input,
-/// its groups, and the text.
+/// The lines are made by at most this many threads. Time is linear in the input but for the order of its groups; memory is that of
+/// all groups, of the largest file of the input, and of the text.
 pub fn finalize_states<R: Threads + Sync, S: Source, O: Sink, E: Sink>(
     rt: &R,
     alloc: Global,
@@ -91,7 +91,8 @@ pub fn finalize_states<R: Threads + Sync, S: Source, O: Sink, E: Sink>(
 
 /// Reads the files of all parts and writes the lines of one range of the table that they come to, after the header if the range has no low
 /// end; or a line to `err` that says why there are none; the exit status. The texts of ranges one after another are the table. Time is
-/// linear in the input but for the order of its groups; memory is the input, its groups, and the groups and the text of the range.
+/// linear in the input but for the order of its groups; memory is that of the groups and the text of the range, and of the largest file of
+/// the input.
 pub fn finalize_range<S: Source, O: Sink, E: Sink>(
     alloc: Global,
     words: RangeWords<'_>,

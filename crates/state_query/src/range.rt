@@ -49,9 +49,7 @@ pub(crate) fn range_pieces<S: Source>(
     let columns = opened.plan.bound.group_columns().len() as u32;
     match ends_of(alloc, words, columns) {
         Ok(ends) => pieces_between(alloc, words, &first, opened, source, &ends),
-        Err(why) => Err(stop_without_ends(
-            alloc, words, &first, opened, source, why,
-        )),
+        Err(why) => Err(stop_without_ends(alloc, words, &first, opened, source, why)),
     }
 }
 

@@ -70,7 +70,8 @@ impl From<Failed> for Stop {
 impl Stop {
     /// The reason for a file that is not taken.
     pub(crate) fn of_load(fault: LoadFault) -> Stop
-        ensures { (bytes : List ℕ) → IsNoInput bytes fault → IsStopOf bytes result }
+        ensures why { (bytes : List ℕ) → IsNoInput bytes fault → IsStopOf bytes result }
+        ensures unread { (result ≡ stop.ReadFault) → ⊥ }
     {
         if is_memory(fault.why) {
             return Stop::Memory;

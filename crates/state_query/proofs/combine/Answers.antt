@@ -1,7 +1,7 @@
 use Rattle.std.proofs.Common.{ℕ, List, subst}
 use Rattle.std.specs.Io.KnownBytes.{Appends}
 use Rattle.state_query.specs.Inputs.{AreOneFile}
-use Rattle.state_query.proofs.Known.{is_known}
+use Rattle.state_query.proofs.Known.{if_known}
 use Rattle.state_query.proofs.combine.Goals as goal
 
 pub returns-clause-states : goal.returns-clause-states
@@ -9,6 +9,5 @@ returns-clause-states g c =
     let old = g.O.Sink.taken c.args.out.now in
     let new = g.O.Sink.taken c.write_whole.new.sink in
     let file = c.in_ok-file.file.items in
-    let one = subst (λ (bs : List ℕ). AreOneFile bs file) c.as_slice.ensures.value c.in_ok-file.ensures.one in
-    let wrote = subst (λ (bs : List ℕ). Appends old new bs) c.as_slice-2.ensures.value c.in_ok-write_whole.ensures.whole in
-    is_known (g.S.Source.left c.args.source.now) c.in_ok-bytes.bytes.items (λ bytes. (x : List ℕ) × AreOneFile bytes x × Appends old new x) c.in_ok-bytes.ensures.whole (file, one, wrote)
+    let wrote = subst (λ (bs : List ℕ). Appends old new bs) c.as_slice.ensures.value c.in_ok-write_whole.ensures.whole in
+    if_known (g.S.Source.left c.args.source.now) (λ bytes. AreOneFile bytes file) (λ bytes. (x : List ℕ) × AreOneFile bytes x × Appends old new x) (λ bytes one. (file, one, wrote)) c.in_ok-file.ensures.one
