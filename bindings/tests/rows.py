@@ -214,6 +214,28 @@ STREAMS = [
         2,
     ),
     ("--group g --agg count", b"g,v,v\na,1,2\n", b"g,count\na,1\n", b"", 0),
+    (
+        "partial --agg count --where =trim",
+        b"g\n1\n",
+        b"",
+        b"parstream: usage: parstream partial [--source I/N] [--bytes FROM[-TO] --size SIZE] [--group COLUMNS] --agg ITEMS .."
+        b" < PART > STATES\n",
+        2,
+    ),
+    (
+        "partial --agg count --no-header",
+        b"1\n",
+        b"",
+        b"parstream: partial takes no --no-header: the parts of a table need its header\n",
+        2,
+    ),
+    (
+        "partial --agg count --skip-bad=3",
+        b"g\n1\n",
+        b"",
+        b"parstream: partial takes no --skip-bad: a file of states leaves out no rows\n",
+        2,
+    ),
 ]
 
 # Where the standard input and output of a program come from that counts two records, and its line and status.

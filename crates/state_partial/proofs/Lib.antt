@@ -5,6 +5,7 @@ mod Found
 mod Lines
 mod Made
 mod Numbers
+mod Options
 mod Separates
 mod Statuses
 mod Taken

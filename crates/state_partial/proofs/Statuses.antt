@@ -1,14 +1,17 @@
 -- Which reason to have no file has which status, and what a reason tells.
-use Rattle.std.proofs.Common.{inl, inr, ◌≡◌, ◌≢◌, ◌⊎◌, ◌<◌, ℕ, List, Err, IfErr, IfSome, Ok, Option, Result, Some, refl, subst, sym}
+use Rattle.std.proofs.Common.{inl, inr, ◌≡◌, ◌≢◌, ◌⊎◌, ◌<◌, ℕ, List, Err, IfErr, IfSome, None, Ok, Option, Result, Some, refl, subst, sym}
+use Rattle.std.specs.Option.{option_map_or}
 use Rattle.answer_text.specs.declared.status.TheConstants.{READ_FAULT, WRITE_FAULT}
 use Rattle.plan_spec.specs.Query.{Query}
-use Rattle.state_partial.specs.NoPart.{HasNoBegin, IsNoPart, IsStopOf, IsWhyOf, OfTile, TellsOfPart, no_part_says}
+use Rattle.state_partial.specs.NoPart.{HasNoBegin, IsNoPart, IsStopOf, IsWhyOf, OfTile, TellsOfPart, no_part_says, no_words}
 use Rattle.state_partial.specs.Places.{AreLeft, IsLonger, text_left}
 use Rattle.state_partial.specs.TooLong.{IsLongPart}
+use Rattle.state_partial.specs.Untaken.{untaken_in}
 use Rattle.state_partial.specs.Words.{Asked, asked_in}
 use Rattle.state_partial.specs.declared.no_part.NoPart.{NoPart}
 use Rattle.state_partial.specs.declared.no_part.NoPart.TheVariants as no_part
 use Rattle.state_partial.specs.declared.no_part.TheConstants.{WRITTEN}
+use Rattle.state_partial.specs.declared.no_part.Untaken.{Untaken}
 use Rattle.state_plan.specs.FilePlans.{AskFor}
 use Rattle.stream_groups.specs.Stops.{Tells}
 use Rattle.stream_groups.specs.Ways.{of_text}
@@ -22,6 +25,7 @@ IsReadFault why = (why ≡ no_part.Stopped stop.ReadFault) ⊎ ((why ≡ no_part
 
 pub is_read_fault : (why : NoPart) → (no_part_says why).0 ≡ READ_FAULT → IsReadFault why
 is_read_fault no_part.Usage is = cc is
+is_read_fault (no_part.Untaken option) is = cc is
 is_read_fault no_part.Long is = cc is
 is_read_fault no_part.NoLine is = cc is
 is_read_fault no_part.LongHeader is = cc is
@@ -39,6 +43,7 @@ is_read_fault (no_part.Stopped stop.Memory) is = cc is
 
 pub is_write_fault : (why : NoPart) → (no_part_says why).0 ≡ WRITE_FAULT → why ≡ no_part.Stopped stop.WriteFault
 is_write_fault no_part.Usage is = cc is
+is_write_fault (no_part.Untaken option) is = cc is
 is_write_fault no_part.Long is = cc is
 is_write_fault no_part.NoLine is = cc is
 is_write_fault no_part.LongHeader is = cc is
@@ -56,6 +61,7 @@ is_write_fault (no_part.Stopped stop.Memory) is = cc is
 
 pub never_written : (why : NoPart) → (no_part_says why).0 ≢ WRITTEN
 never_written no_part.Usage is = cc is
+never_written (no_part.Untaken option) is = cc is
 never_written no_part.Long is = cc is
 never_written no_part.NoLine is = cc is
 never_written no_part.LongHeader is = cc is
@@ -73,10 +79,19 @@ never_written (no_part.Stopped stop.Memory) is = cc is
 
 -- ---- what a reason tells
 
+-- words that ask for no part
+pub words_why : (words : List (List ℕ)) (left : Option (List ℕ)) (lacks : ℕ) (why : NoPart) → why ≡ no_words words → asked_in words ≡ None → IsNoPart words left lacks why
+words_why words left lacks why is none = subst (IsNoPart words left lacks) (sym is) (go (untaken_in words) refl)
+  where
+    go : (o : Option Untaken) → untaken_in words ≡ o → IsNoPart words left lacks (option_map_or (λ option. no_part.Untaken option) o no_part.Usage)
+    go None e = inl (none, e)
+    go (Some option) e = (none, e)
+
 module _ (words : List (List ℕ)) (left : Option (List ℕ)) (asked : Asked) (is_asked : asked_in words ≡ Some asked) (query : Query) (ask : AskFor asked.words query) where
   -- a tile that has no beginning
   no_begin_is : (lacks : ℕ) (why : NoPart) → HasNoBegin asked.extent (text_left query left) why → IsNoPart words left lacks why
   no_begin_is lacks no_part.Usage is = absurd is
+  no_begin_is lacks (no_part.Untaken option) is = absurd is
   no_begin_is lacks no_part.Long is = absurd is
   no_begin_is lacks no_part.NoLine is = record { asked = asked; is_asked = is_asked; query = query; ask_for = ask; so = is }
   no_begin_is lacks no_part.LongHeader is = record { asked = asked; is_asked = is_asked; query = query; ask_for = ask; so = is }

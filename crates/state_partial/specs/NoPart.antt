@@ -1,10 +1,12 @@
 -- Why there is no file of a part: the status, what its line says, and when it is so.
 use Rattle.std.specs.Prelude.{◌≡◌, ◌<◌, ◌⊎◌, ℕ, List, IfSome, None, Option, Some, codes, ⊤}
+use Rattle.std.specs.Option.{option_map_or}
 use Rattle.answer_text.specs.declared.status.TheConstants.{MISUSED, READ_FAULT, TOO_LARGE}
 use Rattle.plan_spec.specs.Query.{Query}
 use Rattle.state_plan.specs.FilePlans.{AskFor, HaveNoQuery}
 use Rattle.state_partial.specs.Places.{AreLeft, IsLonger, text_left}
 use Rattle.state_partial.specs.TooLong.{AskForLong}
+use Rattle.state_partial.specs.Untaken.{untaken_in, untaken_text}
 use Rattle.state_partial.specs.Words.{Asked, asked_in}
 use Rattle.state_partial.specs.declared.no_part.NoPart.{NoPart}
 use Rattle.state_partial.specs.declared.no_part.NoPart.TheVariants as no_part
@@ -27,6 +29,7 @@ usage_text = codes "usage: parstream partial [--source I/N] [--bytes FROM[-TO] -
 -- the status of a reason, and what its line says
 abbrev pub no_part_says : NoPart → ℕ × List ℕ
 no_part_says no_part.Usage = (MISUSED, usage_text)
+no_part_says (no_part.Untaken option) = (MISUSED, untaken_text option)
 no_part_says no_part.Long = (TOO_LARGE, codes "too long for a file of states")
 no_part_says no_part.NoLine = (MISUSED, codes "the bytes do not come after a line that is the header")
 no_part_says no_part.LongHeader = (LONG_RECORD, codes "the header is longer than 67108864 bytes")
@@ -42,9 +45,13 @@ part_of_tile no.LongHeader = no_part.LongHeader
 part_of_tile no.Short = no_part.Short
 part_of_tile no.Memory = no_part.Stopped stop.Memory
 
--- words ask for no part, or for one of no plan
+-- the reason for words that ask for no part: an option that is not taken, if they have one
+abbrev pub no_words : List (List ℕ) → NoPart
+no_words words = option_map_or (λ option. no_part.Untaken option) (untaken_in words) no_part.Usage
+
+-- words ask for no part, and have no such option, or ask for one of no plan
 abbrev pub AskForNone : List (List ℕ) → Type 0
-AskForNone words = (asked_in words ≡ None) ⊎ ((asked : Asked) × (asked_in words ≡ Some asked) × HaveNoQuery asked.words)
+AskForNone words = ((asked_in words ≡ None) × (untaken_in words ≡ None)) ⊎ ((asked : Asked) × (asked_in words ≡ Some asked) × HaveNoQuery asked.words)
 
 -- ---- what is so of a tile
 
@@ -100,6 +107,7 @@ IsStopOf words left stop.Memory = ⊤
 -- a reason is one of these words and these bytes; so many reads failed since the source had ended before its size
 abbrev pub IsNoPart : List (List ℕ) → Option (List ℕ) → ℕ → NoPart → Type 0
 IsNoPart words left lacks no_part.Usage = AskForNone words
+IsNoPart words left lacks (no_part.Untaken option) = (asked_in words ≡ None) × (untaken_in words ≡ Some option)
 IsNoPart words left lacks no_part.Long = AskForLong words left
 IsNoPart words left lacks no_part.NoLine = AskForTile LacksLine words left
 IsNoPart words left lacks no_part.LongHeader = AskForTile (λ span. HasLongHeader) words left
@@ -114,6 +122,7 @@ IsWhyOf words query read lacks why = (left : Option (List ℕ)) → read ≡ tex
 -- a tile that is asked for has no beginning
 abbrev pub HasNoBegin : Extent → Option (List ℕ) → NoPart → Type 0
 HasNoBegin e left no_part.Usage = ⊥
+HasNoBegin e left (no_part.Untaken option) = ⊥
 HasNoBegin e left no_part.Long = ⊥
 HasNoBegin e left no_part.NoLine = OfTile LacksLine e left
 HasNoBegin e left no_part.LongHeader = OfTile (λ span. HasLongHeader) e left

@@ -1,11 +1,13 @@
 -- What the words of `partial` ask for.
-use Rattle.std.specs.Prelude.{◌==◌, ◌&&◌, ◌++◌, ◌∷◌, [], Bool, ℕ, false, true, List, Option, Some, None, bytes_eq, codes, flat_map, if◌then◌else◌, length, nat_le, nat_lt, option_and_then, option_map}
+use Rattle.std.specs.Prelude.{◌==◌, ◌&&◌, ◌++◌, ◌∷◌, [], Bool, ℕ, false, true, not, List, Option, Some, None, bytes_eq, codes, flat_map, if◌then◌else◌, length, nat_le, nat_lt, option_and_then, option_map, unwrap_or}
 use Rattle.std.specs.Char.{is_ascii_digit}
-use Rattle.std.specs.List.{after_first, before_first, list_all, list_any}
+use Rattle.std.specs.List.{after_first, before_first, list_all, list_any, starts_with}
+use Rattle.std.specs.Option.{option_map_or}
 use Rattle.std.specs.Str.Parse.{digits_value}
-use Rattle.clap.specs.Words.{App, new_app, with_rule}
+use Rattle.clap.specs.Walk.{Row}
+use Rattle.clap.specs.Words.{App, all_of, first_of, matches_of, new_app, with_rule}
 use Rattle.plan_spec.specs.Grammar.{number_in}
-use Rattle.plan_spec.specs.Options.{bare, flag_in, is_command_line, option_of, reading_command, repeated_of, value_of, values_of}
+use Rattle.plan_spec.specs.Options.{bare, is_command_line, option_of, reading_command, repeated_of}
 use Rattle.plan_spec.specs.Query.{number_given, text_of}
 use Rattle.plan_spec.specs.declared.plan.TheConstants.{MOST_WORKERS}
 use Rattle.state_file.specs.Text.{text_bytes}
@@ -102,11 +104,21 @@ text_after front (Some value) = (front ++ value) ∷ []
 abbrev pub reading_texts : Option (List ℕ) → Option (List ℕ) → Bool → List (List ℕ)
 reading_texts separator nulls trim = text_after (codes "=separator=") separator ++ (text_after (codes "=null=") nulls ++ (if trim then codes "=trim" ∷ [] else []))
 
--- the filters that words give, and how fields are read
-abbrev pub filters_in : List (List ℕ) → List ℕ
-filters_in words =
-    filters_of (values_of partial_command (codes "where") words)
-    ++ filters_of (reading_texts (value_of partial_command (codes "separator") words) (value_of partial_command (codes "null") words) (flag_in partial_command (codes "trim") words))
+-- the texts of the filters, of the rows of clap's matches
+abbrev pub where_texts : List Row → List (List ℕ)
+where_texts rows = unwrap_or (all_of (codes "where") rows) []
+
+-- a text that may be a filter: none begins with an equals sign, and a head has how fields are read as such texts
+abbrev pub may_be_filter : List ℕ → Bool
+may_be_filter text = not (starts_with (λ a b. a == b) text (codes "="))
+
+-- how they say that fields are read
+abbrev pub reading_of : List Row → List (List ℕ)
+reading_of rows = reading_texts (first_of (codes "separator") rows) (first_of (codes "null") rows) (option_map_or (bytes_eq (codes "true")) (first_of (codes "trim") rows) false)
+
+-- the filters and how fields are read, if each text may be a filter
+abbrev pub filters_in : List Row → Option (List ℕ)
+filters_in rows = if list_all may_be_filter (where_texts rows) then Some (filters_of (where_texts rows) ++ filters_of (reading_of rows)) else None
 
 -- what all values ask for, if each is one
 abbrev pub asked_by : Option (List ℕ) → Option (List ℕ) → Option (List ℕ) → List ℕ → Option ℕ → Option SourcePart → Option Extent → Option Asked
@@ -119,14 +131,15 @@ asked_by group agg decimals filters workers part which =
 abbrev pub given_by : Given → Option Asked
 given_by g = asked_by (text_given (text_of g.group)) (text_given (text_of g.agg)) (text_given (text_of g.decimals)) g.filters.items (number_given MOST_WORKERS WORKERS (text_of g.workers)) (source_given (text_of g.source)) (extent_given (text_of g.bytes) (text_of g.size))
 
+-- what the rows of clap's matches ask for, if each value reads
+abbrev pub asked_by_rows : List Row → Option Asked
+asked_by_rows rows =
+    option_and_then (λ filters. asked_by (text_given (first_of (codes "group") rows)) (text_given (first_of (codes "agg") rows)) (text_given (first_of (codes "decimals") rows)) filters
+    (number_given MOST_WORKERS WORKERS (first_of (codes "workers") rows)) (source_given (first_of (codes "source") rows)) (extent_given (first_of (codes "bytes") rows) (first_of (codes "size") rows))) (filters_in rows)
+
 -- what the words after `partial` ask for, if they do: clap takes them, and each value reads
 unfoldable pub asked_in : List (List ℕ) → Option Asked
-asked_in words =
-    if is_command_line partial_command words
-    then asked_by (text_given (value_of partial_command (codes "group") words)) (text_given (value_of partial_command (codes "agg") words)) (text_given (value_of partial_command (codes "decimals") words))
-    (filters_in words) (number_given MOST_WORKERS WORKERS (value_of partial_command (codes "workers") words)) (source_given (value_of partial_command (codes "source") words))
-    (extent_given (value_of partial_command (codes "bytes") words) (value_of partial_command (codes "size") words))
-    else None
+asked_in words = if is_command_line partial_command words then asked_by_rows (matches_of partial_command words) else None
 
 -- the words after `partial`, if that is the first one
 abbrev pub words_after : List (List ℕ) → Option (List (List ℕ))

@@ -21,5 +21,5 @@ mod reading;
 mod words;
 
 pub use law::part_is_made;
-pub use no_part::{NoPart, WRITTEN};
+pub use no_part::{NoPart, Untaken, WRITTEN};
 pub use partial::{part_words, partial_states};

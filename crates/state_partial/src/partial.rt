@@ -138,7 +138,7 @@ fn make_part<R: Threads + Wait + Sync, S: Source, P: Progress>(
     };
     match found {
         Some(asked) => make_asked(rt, alloc, &asked, source, window_bytes, progress),
-        None => Err(NoPart::Usage),
+        None => Err(NoPart::of_words(words)),
     }
 }
 

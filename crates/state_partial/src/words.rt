@@ -2,14 +2,15 @@
 //!
 //! They are read by the crate `clap`, as parstream's words are (`plan_spec`), so an option is written in each way that it has there.
 
-ghost use Rattle.std.specs.Prelude.{◌≡◌, ◌<◌, ◌≤◌, ◌++◌, ◌∷◌, [], IfOk, IfSome, None, bytes_eq, codes, if◌then◌else◌, map, option_map, true, false};
+ghost use Rattle.std.specs.Prelude.{◌≡◌, ◌<◌, ◌≤◌, ◌++◌, ◌∷◌, [], IfOk, IfSome, None, bytes_eq, codes, if◌then◌else◌, map, option_and_then, option_map, true, false};
+ghost use Rattle.std.specs.List.{list_all};
 ghost use Rattle.std.specs.Option.{option_map_or};
 ghost use Rattle.answer_text.specs.Words.{texts};
-ghost use Rattle.clap.specs.Words.{app_of, found_of, is_simple_and_free, matches_of, rows_of, with_rule};
-ghost use Rattle.plan_spec.specs.Options.{flag_of, is_command_line, option_of, reading_command, value_of};
+ghost use Rattle.clap.specs.Words.{app_of, found_of, is_simple_and_free, matches_of, new_app, rows_of, with_rule};
+ghost use Rattle.plan_spec.specs.Options.{bare, flag_of, is_command_line, option_of, reading_command, repeated_of};
 ghost use Rattle.plan_spec.specs.Query.{number_given, text_of};
 ghost use Rattle.state_head.specs.Words.{words_of};
-ghost use Rattle.state_partial.specs.Words.{asked_in, asked_of, asking_command, extent_given, filters_in, filters_of, given_by, partial_command, place_in, plan_command, reading_texts, source_given, source_in, span_by, span_in, text_after, text_given};
+ghost use Rattle.state_partial.specs.Words.{asked_by_rows, asked_in, asked_of, asking_command, extent_given, filters_in, filters_of, given_by, may_be_filter, partial_command, place_in, plan_command, reading_texts, source_given, source_in, span_by, span_in, text_after, text_given};
 
 use clap::error::ErrorKind;
 use clap::{Arg, ArgAction, ArgMatches, Command};
@@ -240,29 +241,26 @@ fn place_of(text: &str) -> Option<u64>
     Some(value)
 }
 
-/// What the words give for each option, if they are such a command line.
+/// What the words give for each option, if they are such a command line, and each text of a filter may be one.
 fn given_values<'a>(alloc: Global, words: &'a [String]) -> Result<Option<Given<'a>>, AllocError>
-    ensures none { IfOk result (λ found. found ≡ None → is_command_line partial_command (texts words.now) ≡ false) }
-    ensures takes { IfOk result (λ found. IfSome found (λ _. is_command_line partial_command (texts words.now) ≡ true)) }
-    ensures group { IfOk result (λ found. IfSome found (λ g. text_of g.group ≡ value_of partial_command (codes "group") (texts words.now))) }
-    ensures agg { IfOk result (λ found. IfSome found (λ g. text_of g.agg ≡ value_of partial_command (codes "agg") (texts words.now))) }
-    ensures decimals { IfOk result (λ found. IfSome found (λ g. text_of g.decimals ≡ value_of partial_command (codes "decimals") (texts words.now))) }
-    ensures filters { IfOk result (λ found. IfSome found (λ g. g.filters.items ≡ filters_in (texts words.now))) }
-    ensures workers { IfOk result (λ found. IfSome found (λ g. text_of g.workers ≡ value_of partial_command (codes "workers") (texts words.now))) }
-    ensures source { IfOk result (λ found. IfSome found (λ g. text_of g.source ≡ value_of partial_command (codes "source") (texts words.now))) }
-    ensures bytes { IfOk result (λ found. IfSome found (λ g. text_of g.bytes ≡ value_of partial_command (codes "bytes") (texts words.now))) }
-    ensures size { IfOk result (λ found. IfSome found (λ g. text_of g.size ≡ value_of partial_command (codes "size") (texts words.now))) }
+    ensures { IfOk result (λ found. option_and_then given_by found ≡ asked_in (texts words.now)) }
 {
     let command = partial(alloc)?;
     let found = matches_in(command, words)?;
-    let Some(matches) = found else {
+    match found {
+        Some(matches) => values_in(alloc, &matches),
+        None => Ok(None),
+    }
+}
+
+/// What a parse gives for each option, if each text of a filter may be one.
+fn values_in<'a>(alloc: Global, matches: &ArgMatches<'a>) -> Result<Option<Given<'a>>, AllocError>
+    ensures { IfOk result (λ found. option_and_then given_by found ≡ asked_by_rows (rows_of (found_of matches.now))) }
+{
+    let read = filters_read(alloc, matches)?;
+    let Some(filters) = read else {
         return Ok(None);
     };
-    let texts = filter_texts(alloc, matches.get_strs("where").unwrap_or(&[]))?;
-    let separator = matches.get_str("separator");
-    let nulls = matches.get_str("null");
-    let trim = is_true(matches.get_str("trim"));
-    let filters = with_reading(alloc, texts, separator, nulls, trim)?;
     Ok(Some(Given {
         group: matches.get_str("group"),
         agg: matches.get_str("agg"),
@@ -273,6 +271,43 @@ fn given_values<'a>(alloc: Global, words: &'a [String]) -> Result<Option<Given<'
         bytes: matches.get_str("bytes"),
         size: matches.get_str("size"),
     }))
+}
+
+/// The filters of a parse as texts one after another, and after them those that say how fields are read, if each may be a filter.
+fn filters_read(alloc: Global, matches: &ArgMatches<'_>) -> Result<Option<Vec<u8>>, AllocError>
+    ensures { IfOk result (λ found. option_map (λ all. all.items) found ≡ filters_in (rows_of (found_of matches.now))) }
+{
+    let values = matches.get_strs("where").unwrap_or(&[]);
+    if !are_filters(values) {
+        return Ok(None);
+    }
+    let texts = filter_texts(alloc, values)?;
+    let separator = matches.get_str("separator");
+    let nulls = matches.get_str("null");
+    let trim = is_true(matches.get_str("trim"));
+    let all = with_reading(alloc, texts, separator, nulls, trim)?;
+    Ok(Some(all))
+}
+
+/// Whether each of some values may be a filter.
+#[tactic(auto, using(crate::proofs::Commands::all_filters))]
+fn are_filters(values: &[&str]) -> bool
+    ensures { result ≡ list_all may_be_filter (map (λ value. value.now) values.now) }
+{
+    are_all(values)
+}
+
+fn are_all(values: &[&str]) -> bool
+    ensures { result ≡ list_all (λ value. may_be_filter value.now) values.now }
+{
+    values.iter().all(|value| may_be_filter(value))
+}
+
+/// Whether a text may be a filter. One that begins with an equals sign says in a head how fields are read.
+fn may_be_filter(text: &str) -> bool
+    ensures { result ≡ may_be_filter text.now }
+{
+    !text.as_bytes().starts_with(b"=")
 }
 
 /// Some values as texts one after another.
@@ -378,14 +413,10 @@ fn plan_options<'a>(alloc: Global) -> Result<Command<'a>, AllocError>
 fn asking_options<'a>(alloc: Global) -> Result<Command<'a>, AllocError>
     ensures { IfOk result (λ c. app_of c ≡ asking_command) }
 {
-    let bare = Command::new(alloc, "partial").no_binary_name(true);
+    let bare = bare_command(alloc, "partial");
     let grouped = with_option(alloc, bare, "group", false)?;
     let summed = with_option(alloc, grouped, "agg", true)?;
-    let filtered = summed.arg(
-        Arg::new(alloc, "where")
-            .long("where")
-            .action(ArgAction::Append),
-    )?;
+    let filtered = with_list(alloc, summed, "where")?;
     let staffed = with_option(alloc, filtered, "workers", false)?;
     with_option(alloc, staffed, "decimals", false)
 }
@@ -397,6 +428,24 @@ fn with_reading_options<'a>(alloc: Global, command: Command<'a>) -> Result<Comma
     let parted = with_option(alloc, command, "separator", false)?;
     let emptied = with_option(alloc, parted, "null", false)?;
     with_flag(alloc, emptied, "trim")
+}
+
+/// A command with no options, for words with no program name before them.
+fn bare_command<'a>(alloc: Global, name: &'a str) -> Command<'a>
+    ensures { app_of result ≡ bare (new_app name.entry.now) }
+{
+    Command::new(alloc, name).no_binary_name(true)
+}
+
+/// A command with one more option, which takes a value each time it is given.
+fn with_list<'a>(
+    alloc: Global,
+    command: Command<'a>,
+    name: &'a str,
+) -> Result<Command<'a>, AllocError>
+    ensures { IfOk result (λ c. app_of c ≡ with_rule (app_of command.entry) (repeated_of name.entry.now)) }
+{
+    command.arg(Arg::new(alloc, name).long(name).action(ArgAction::Append))
 }
 
 /// A command with one more option, which takes no value.

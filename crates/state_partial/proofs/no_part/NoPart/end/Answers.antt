@@ -1,4 +1,4 @@
-use Rattle.std.proofs.Common.{subst, sym}
+use Rattle.std.proofs.Common.{ℕ, List, subst, sym}
 use Rattle.answer_text.specs.Lines.{IsSaid}
 use Rattle.stream_groups.specs.Lines.{line}
 use Rattle.state_partial.specs.NoPart.{no_part_says}
@@ -8,6 +8,11 @@ use Rattle.state_partial.proofs.no_part.NoPart.end.Goals as goal
 pub returns-in-Usage-clause-said : goal.returns-in-Usage-clause-said
 returns-in-Usage-clause-said g c =
     subst (λ (why : NoPart). IsSaid (g.E.Sink.taken c.args.err.now) (g.E.Sink.taken c.say.new.err) (g.E.Sink.faults c.args.err.now) (g.E.Sink.faults c.say.new.err) (line (no_part_says why).1)) (sym c.in-Usage.is) c.say.ensures.said
+
+pub returns-in-Untaken-clause-said : goal.returns-in-Untaken-clause-said
+returns-in-Untaken-clause-said g c =
+    let told = subst (λ (t : List ℕ). IsSaid (g.E.Sink.taken c.args.err.now) (g.E.Sink.taken c.say-in-Untaken.new.err) (g.E.Sink.faults c.args.err.now) (g.E.Sink.faults c.say-in-Untaken.new.err) (line t)) c.text.ensures c.say-in-Untaken.ensures.said in
+    subst (λ (why : NoPart). IsSaid (g.E.Sink.taken c.args.err.now) (g.E.Sink.taken c.say-in-Untaken.new.err) (g.E.Sink.faults c.args.err.now) (g.E.Sink.faults c.say-in-Untaken.new.err) (line (no_part_says why).1)) (sym c.in-Untaken.is) told
 
 pub returns-in-Long-clause-said : goal.returns-in-Long-clause-said
 returns-in-Long-clause-said g c =
