@@ -1,4 +1,5 @@
 pub mod Values
+pub mod Reserves
 pub mod Items
 pub mod Shares
 pub mod Tries
