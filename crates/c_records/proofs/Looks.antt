@@ -13,7 +13,8 @@ use Rattle.dshash_parts.specs.Tables.{AreKeysOf, Turned, key_words_of, map_at}
 use Rattle.dshash_parts.specs.declared.histories.PartitionCalls.TheVariants.{Lists as Listing}
 use Rattle.dshash_parts.specs.declared.table.Dshash.{Dshash}
 use Rattle.lock_book.specs.Shown.{seen_of}
-use Rattle.c_records.specs.Looks.{HasNothing, IsEntryOf, IsListed, Lists, OnlySees, Writes, keys_of, records_under}
+use Rattle.c_table.specs.Looks.{IsEntryOf, keys_of}
+use Rattle.c_records.specs.Looks.{HasNothing, IsListed, Lists, OnlySees, Writes, records_under}
 use Rattle.c_records.specs.Values.{stepped}
 use Rattle.c_table.specs.declared.code.Code.{Code}
 use Rattle.c_table.specs.declared.code.Code.TheVariants.{Absent, BadCallers, BadSize, Blank, Done, Grown, InUse, NoMemory, NoSpace, ShortBuffer, WouldBlock}

@@ -1,5 +1,4 @@
 pub mod Values
-pub mod Reserves
 pub mod Items
 pub mod Shares
 pub mod Tries

@@ -1,14 +1,13 @@
 -- What a call at a whole partition does: the caller's share s becomes t.
-use Rattle.std.specs.Prelude.{◌≡◌, ℕ, ◌<◌, ◌≤◌, ◌⊎◌, List, Some, None, Result, Ok, Err, length, map, take, drop, slice_index}
+use Rattle.std.specs.Prelude.{◌≡◌, ℕ, ◌<◌, ◌≤◌, ◌⊎◌, List, Some, None, Result, Ok, Err, length, map}
 use Rattle.std.specs.List.{All}
 use Rattle.std.specs.FinMap as fin
 use Rattle.lock_book.specs.Shown.{Missed, number_of, seen_of}
-use Rattle.dshash_core.specs.Cells.{partition_of}
-use Rattle.dshash_core.specs.Key.{hash_of}
 use Rattle.dshash_core.specs.Outcome.{ListsAll}
 use Rattle.dshash_parts.specs.Tables.{Turned, map_at}
 use Rattle.dshash_parts.specs.declared.histories.PartitionCalls.TheVariants as call
 use Rattle.dshash_parts.specs.declared.histories.PartitionReplies.TheVariants.{HasSize, Listed}
+use Rattle.c_table.specs.Looks.{Begins, IsEntryOf, keys_of}
 use Rattle.c_records.specs.Values.{stepped}
 use Rattle.c_table.specs.declared.code.Code.{Code}
 use Rattle.c_table.specs.declared.code.Code.TheVariants.{BadSize, Done, NoMemory, ShortBuffer, WouldBlock}
@@ -28,19 +27,9 @@ Counts s t partition (Err WouldBlock) = OnlySees s t × Missed s.pass t.pass
 Counts s t partition (Err BadSize) = (t ≡ s) × (128 ≤ partition)
 Counts s t partition (Err code) = ⊥
 
--- the keys of entries, each of one word
-abbrev pub keys_of : List (List ℕ × Record) → List ℕ
-keys_of entries = map (λ e. slice_index e.0 0) entries
-
 -- the records under the keys of entries
 abbrev pub records_under : List (List ℕ × Record) → List Record
 records_under entries = map (λ e. e.1) entries
-
--- a row begins with these, and the rest of it is as before
-pub record Begins {A : Type 0} (before after front : List A) : Type 0 where
-  pub begins : take (length front) after ≡ front
-  pub rest : drop (length front) after ≡ drop (length front) before
-  pub room : length after ≡ length before
 
 -- these keys and the records under them are written to two rows, and counted; or a row is shorter than they are
 abbrev pub Writes : (found : List ℕ) (under : List Record) (keys : List ℕ) (records : List Record) (keys' : List ℕ) (records' : List Record) → Code → ℕ → Type 0
@@ -51,10 +40,6 @@ Writes found under keys records keys' records' code n = ⊥
 -- nothing is written
 abbrev pub HasNothing : (keys : List ℕ) (records : List Record) (keys' : List ℕ) (records' : List Record) → ℕ → Type 0
 HasNothing keys records keys' records' n = (keys' ≡ keys) × (records' ≡ records) × (n ≡ 0)
-
--- an entry of this partition, and so of no other: its key has one word
-abbrev pub IsEntryOf : ℕ → List ℕ × Record → Type 0
-IsEntryOf partition e = (length e.0 ≡ 1) × (partition_of (hash_of e.0) ≡ partition)
 
 -- The partition was listed, which is the last event of its history that the caller knows: the entries are those of its
 -- map, each once

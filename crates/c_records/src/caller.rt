@@ -6,16 +6,14 @@ ghost use Rattle.std.specs.List.{All};
 ghost use Rattle.dshash_core.specs.Cells.{buckets_of};
 ghost use Rattle.dshash_parts.specs.Promises.{one_if};
 ghost use Rattle.c_records.specs.Items.{IsItem};
-ghost use Rattle.c_records.specs.Reserves.{IsReserve};
-ghost use Rattle.c_table.specs.Reserves.{chunk_words};
+ghost use Rattle.c_table.specs.Reserves.{IsReserve, chunk_words};
 ghost use Rattle.c_records.specs.Tries.{Grows, Stays, Tries};
 ghost use Rattle.c_records.specs.Shares.{IsShare};
 ghost use Rattle.c_records.specs.declared.value.RecordCall.TheVariants.{Get};
 
-use crate::reserve::Reserve;
 use crate::shared::Share;
 use crate::value::{Record, RecordCall};
-use c_table::Code;
+use c_table::{Code, Reserve, make_places, take_slice};
 use dshash_core::{CoreOut, bucket_count, hash_key, partition_of_hash};
 use dshash_parts::Busy;
 use region_words::{Chunk, Region};
@@ -23,9 +21,6 @@ use std::marker::Model;
 
 /// The words of an item: its link, the hash, the key's word and the 17 of the record under it.
 const ITEM_WORDS: u64 = 20;
-
-/// The most items that a call leaves over: its own, and that of a key that goes.
-const MOST_KEPT: usize = 2;
 
 /// One caller: contracts see its share of the table.
 #[derive(Drop)]
@@ -45,18 +40,6 @@ impl Model for Caller {
     ghost view = { λ c. c.share };
 
     ghost invariant = { λ c. IsShare c.share };
-}
-
-/// Makes places for the items and the slice that a call may leave over. Whether there was memory for them.
-fn make_places(items: &mut Vec<Chunk>, slices: &mut Vec<Chunk>) -> bool
-    ensures items { items.new.items ≡ items.old.items }
-    ensures slices { slices.new.items ≡ slices.old.items }
-    ensures places { IsTrue result → (length items.new.items + 2 ≤ vec_capacity items.new) × (length slices.new.items < vec_capacity slices.new) }
-{
-    match items.reserve(MOST_KEPT) {
-        Ok(()) => slices.reserve(1).is_ok(),
-        Err(_) => false,
-    }
 }
 
 /// An item that holds no key, if the caller has one or the words for one.
@@ -89,33 +72,6 @@ fn keep_item(r: &Region, items: &mut Vec<Chunk>, item: Option<Chunk>)
     if let Some(item) = item {
         items.push_reserved(item);
     }
-}
-
-/// A slice of this many words at least: the last that was kept, or one of the words that are not cut yet.
-fn take_slice(
-    r: &Region,
-    reserve: &mut Reserve,
-    slices: &mut Vec<Chunk>,
-    words: u64,
-) -> Option<Chunk>
-    requires reserve { IsReserve r.now reserve.old }
-    requires slices { All (λ c. c.part.region ≡ r.now) slices.old.items }
-    requires place { length slices.old.items < vec_capacity slices.old }
-    ensures reserve { IsReserve r.now reserve.new }
-    ensures slices { All (λ c. c.part.region ≡ r.now) slices.new.items }
-    ensures slice { IfSome result (λ c. (c.part.region ≡ r.now) × (words ≤ c.bytes / 8)) }
-    ensures some { IfSome result (λ c. reserve.new.left + chunk_words slices.new.items + c.bytes / 8 ≡ reserve.old.left + chunk_words slices.old.items) }
-    ensures none { IfNone result ((reserve.new ≡ reserve.old) × (slices.new.items ≡ slices.old.items) × (reserve.old.left < words)) }
-    ensures fewer { length slices.new.items ≤ length slices.old.items }
-    ensures capacity { vec_capacity slices.new ≡ vec_capacity slices.old }
-{
-    if let Some(slice) = slices.pop() {
-        if slice.bytes / 8 >= words {
-            return Some(slice);
-        }
-        slices.push_reserved(slice);
-    }
-    reserve.cut(r, words)
 }
 
 impl Caller {

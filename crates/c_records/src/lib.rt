@@ -12,13 +12,11 @@ mod caller;
 mod handle;
 mod looking;
 mod making;
-mod reserve;
 mod shared;
 mod value;
 
 pub use caller::Caller;
 pub use handle::{Handle, open, share};
 pub use making::new_table;
-pub use reserve::Reserve;
 pub use shared::{Share, Shared};
 pub use value::{RECORD_WORDS, Record, RecordCall};

@@ -1,18 +1,15 @@
 //! How a table is made, and how a further caller comes to it.
 
 ghost use Rattle.std.specs.Prelude.{◌≡◌, ◌+◌, ◌≤◌, ◌<◌, IfOk, IfErr, length};
-ghost use Rattle.dshash_parts.specs.Opening.{HaveWords};
-ghost use Rattle.c_records.specs.Reserves.{IsReserve};
 ghost use Rattle.c_records.specs.Made.{IsFirst, IsFurther};
 ghost use Rattle.c_table.specs.Made.{IsRefused};
 
 use crate::caller::Caller;
-use crate::reserve::Reserve;
 use crate::shared::{Share, Shared};
-use c_table::Code;
+use c_table::{Code, Reserve, new_slices};
 use dshash_core::PARTITIONS;
 use dshash_parts::Dshash;
-use region_words::{Chunk, Region};
+use region_words::Region;
 use std::alloc::{AllocError, Global};
 use std::sync::Arc;
 
@@ -24,25 +21,6 @@ const OWN_WORDS: u64 = 129;
 
 /// The most words of a region.
 const MOST_WORDS: u64 = 67_108_864;
-
-/// A slice of one word for each partition.
-fn new_slices(alloc: Global, r: &Region, reserve: &mut Reserve) -> Result<Vec<Chunk>, AllocError>
-    requires reserve { IsReserve r.now reserve.old }
-    requires room { 128 ≤ reserve.old.left }
-    ensures reserve { IsReserve r.now reserve.new }
-    ensures less { IfOk result (λ _. reserve.old.left ≡ reserve.new.left + 128) }
-    ensures count { IfOk result (λ v. length v.items ≡ 128) }
-    ensures slices { IfOk result (λ v. HaveWords r.now v.items) }
-{
-    let mut slices = Vec::with_capacity(alloc, PARTITIONS as usize)?;
-    for _cut in 0..PARTITIONS {
-        let Some(slice) = reserve.cut(r, 1) else {
-            unreachable!()
-        };
-        slices.push_reserved(slice);
-    }
-    Ok(slices)
-}
 
 /// An empty table for this many callers in its own region, with this many words for them.
 #[tactic(auto, using(word_map::proofs::Maps::answers, std::proofs::lemmas::Bool::Decides::nat_tests))]
@@ -99,7 +77,7 @@ impl Caller {
         if share.others.is_empty() {
             return Err(Code::BadCallers);
         }
-        if words == 0 || share.reserve.left < words {
+        if words == 0 || share.reserve.left() < words {
             return Err(Code::NoSpace);
         }
         let Ok(shared) = Arc::try_clone(&share.shared) else {

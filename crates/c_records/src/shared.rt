@@ -1,7 +1,7 @@
 //! What the callers of a table share, and what each owns.
 
-use crate::reserve::Reserve;
 use crate::value::Record;
+use c_table::Reserve;
 use dshash_parts::{DsPass, Dshash};
 use region_words::{Chunk, Region};
 use std::sync::Arc;

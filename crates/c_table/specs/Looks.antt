@@ -28,15 +28,15 @@ Counts s t partition (Err BadSize) = (t ≡ s) × (128 ≤ partition)
 Counts s t partition (Err code) = ⊥
 
 -- the keys of entries, each of one word
-abbrev pub keys_of : List (List ℕ × ℕ) → List ℕ
+abbrev pub keys_of : {S : Type 0} → List (List ℕ × S) → List ℕ
 keys_of entries = map (λ e. slice_index e.0 0) entries
 
 -- the words under them
 abbrev pub words_under : List (List ℕ × ℕ) → List ℕ
 words_under entries = map (λ e. e.1) entries
 
--- a row of numbers begins with these, and the rest of it is as before
-pub record Begins (before after front : List ℕ) : Type 0 where
+-- a row begins with these, and the rest of it is as before
+pub record Begins {A : Type 0} (before after front : List A) : Type 0 where
   pub begins : take (length front) after ≡ front
   pub rest : drop (length front) after ≡ drop (length front) before
   pub room : length after ≡ length before
@@ -52,7 +52,7 @@ abbrev pub HasNothing : (keys words keys' words' : List ℕ) → ℕ → Type 0
 HasNothing keys words keys' words' n = (keys' ≡ keys) × (words' ≡ words) × (n ≡ 0)
 
 -- an entry of this partition, and so of no other: its key has one word
-abbrev pub IsEntryOf : ℕ → List ℕ × ℕ → Type 0
+abbrev pub IsEntryOf : {S : Type 0} → ℕ → List ℕ × S → Type 0
 IsEntryOf partition e = (length e.0 ≡ 1) × (partition_of (hash_of e.0) ≡ partition)
 
 -- The partition was listed, which is the last event of its history that the caller knows: the entries are those of its

@@ -45,8 +45,9 @@ impl Model for Caller {
     ghost invariant = { λ c. IsShare c.share };
 }
 
-/// Makes places for the items and the slice that a call may leave over. Whether there was memory for them.
-fn make_places(items: &mut Vec<Chunk>, slices: &mut Vec<Chunk>) -> bool
+/// Makes places for the items and the slice that a call of a caller may leave over: two and one. Whether there was memory
+/// for them.
+pub fn make_places(items: &mut Vec<Chunk>, slices: &mut Vec<Chunk>) -> bool
     ensures items { items.new.items ≡ items.old.items }
     ensures slices { slices.new.items ≡ slices.old.items }
     ensures places { IsTrue result → (length items.new.items + 2 ≤ vec_capacity items.new) × (length slices.new.items < vec_capacity slices.new) }
@@ -90,7 +91,7 @@ fn keep_item(r: &Region, items: &mut Vec<Chunk>, item: Option<Chunk>)
 }
 
 /// A slice of this many words at least: the last that was kept, or one of the words that are not cut yet.
-fn take_slice(
+pub fn take_slice(
     r: &Region,
     reserve: &mut Reserve,
     slices: &mut Vec<Chunk>,

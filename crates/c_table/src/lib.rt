@@ -19,10 +19,10 @@ mod reserve;
 mod shared;
 mod word;
 
-pub use caller::Caller;
+pub use caller::{Caller, make_places, take_slice};
 pub use code::Code;
 pub use handle::{Handle, open, share};
-pub use making::new_table;
+pub use making::{new_slices, new_table};
 pub use reserve::Reserve;
 pub use shared::{Share, Shared};
 pub use word::{Word, WordCall};

@@ -24,8 +24,12 @@ const OWN_WORDS: u64 = 129;
 /// The most words of a region.
 const MOST_WORDS: u64 = 67_108_864;
 
-/// A slice of one word for each partition.
-fn new_slices(alloc: Global, r: &Region, reserve: &mut Reserve) -> Result<Vec<Chunk>, AllocError>
+/// A slice of one word for each partition of a new table.
+pub fn new_slices(
+    alloc: Global,
+    r: &Region,
+    reserve: &mut Reserve,
+) -> Result<Vec<Chunk>, AllocError>
     requires reserve { IsReserve r.now reserve.old }
     requires room { 128 ≤ reserve.old.left }
     ensures reserve { IsReserve r.now reserve.new }

@@ -16,7 +16,7 @@ pub struct Reserve {
 
 impl Reserve {
     /// These words of a part.
-    pub(crate) fn of_part(part: Part, from: u64, words: u64) -> Reserve
+    pub fn of_part(part: Part, from: u64, words: u64) -> Reserve
         requires valid { 0 < from }
         requires few { from + words ≤ 2 ^ 26 }
         requires owns { (k : ℕ) → from ≤ k → k < from + words → IsSome (word_at part.words k) }
@@ -30,7 +30,7 @@ impl Reserve {
     }
 
     /// The words of a chunk.
-    pub(crate) fn of_chunk(chunk: Chunk) -> Reserve
+    pub fn of_chunk(chunk: Chunk) -> Reserve
         requires some { 8 ≤ chunk.bytes }
         ensures { IsReserve chunk.part.region result × (8 * result.left ≡ chunk.bytes) }
     {
@@ -43,8 +43,15 @@ impl Reserve {
         }
     }
 
+    /// How many words are left.
+    pub fn left(&self) -> u64
+        ensures { result ≡ self.now.left }
+    {
+        self.left
+    }
+
     /// A chunk of this many words, if that many are left.
-    pub(crate) fn cut(&mut self, r: &Region, words: u64) -> Option<Chunk>
+    pub fn cut(&mut self, r: &Region, words: u64) -> Option<Chunk>
         requires reserve { IsReserve r.now self.old }
         ensures reserve { IsReserve r.now self.new }
         ensures chunk { IfSome result (λ c. (c.part.region ≡ r.now) × (c.bytes ≡ 8 * words)) }

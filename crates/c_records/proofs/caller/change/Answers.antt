@@ -5,8 +5,7 @@ use Rattle.std_alloc.specs.Arc.{arc_value}
 use Rattle.dshash_parts.specs.Promises.{one_if}
 use Rattle.dshash_parts.specs.Tables.{Belongs}
 use Rattle.c_records.specs.Items.{IsItem}
-use Rattle.c_records.specs.Reserves.{IsReserve}
-use Rattle.c_table.specs.Reserves.{chunk_words}
+use Rattle.c_table.specs.Reserves.{IsReserve, chunk_words}
 use Rattle.c_records.specs.Shares.{words_of}
 use Rattle.c_records.specs.declared.shared.Shared.{Shared}
 use Rattle.c_records.proofs.Tries.{full, lacks, made}

@@ -11,7 +11,7 @@ use Rattle.dshash_parts.specs.declared.histories.PartitionReplies.TheVariants.{M
 use Rattle.c_table.specs.Tries.{home_of}
 use Rattle.c_records.specs.Values.{stepped}
 use Rattle.region_words.specs.declared.chunk.Chunk.{Chunk}
-use Rattle.c_records.specs.Reserves.{IsReserve}
+use Rattle.c_table.specs.Reserves.{IsReserve}
 use Rattle.c_records.specs.declared.shared.Shared.{Shared}
 use Rattle.c_records.proofs.caller.grow.Goals as goal
 

@@ -6,8 +6,7 @@ use Rattle.region_words.specs.declared.chunk.Chunk.{Chunk}
 use Rattle.lock_book.specs.Shown.{mine_of, number_of, seen_of}
 use Rattle.dshash_parts.specs.Tables.{Belongs, callers_of}
 use Rattle.c_records.specs.Items.{IsItem}
-use Rattle.c_records.specs.Reserves.{IsReserve}
-use Rattle.c_table.specs.Reserves.{chunk_words}
+use Rattle.c_table.specs.Reserves.{IsReserve, chunk_words}
 use Rattle.c_records.specs.Shares.{IsShared}
 use Rattle.c_records.specs.declared.shared.Shared.{Shared}
 use Rattle.c_table.proofs.Lists.{at_end, each_but_last}

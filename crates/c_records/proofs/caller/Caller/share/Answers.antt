@@ -9,8 +9,7 @@ use Rattle.std_alloc.specs.Arc.{arc_value}
 use Rattle.lock_book.specs.Shown.{mine_of, number_of, seen_of}
 use Rattle.dshash_parts.specs.Tables.{Belongs}
 use Rattle.c_records.specs.Items.{IsItem}
-use Rattle.c_records.specs.Reserves.{IsReserve}
-use Rattle.c_table.specs.Reserves.{chunk_words}
+use Rattle.c_table.specs.Reserves.{IsReserve, chunk_words}
 use Rattle.c_records.specs.Shares.{IsShared, words_of}
 use Rattle.c_records.specs.declared.shared.Shared.{Shared}
 use Rattle.c_records.specs.declared.shared.Share.{Share}
