@@ -1,5 +1,5 @@
 -- What is known of bytes that may be known.
-use Rattle.std.proofs.Common.{◌≡◌, ◌⊎◌, ◌++◌, ◌∙◌, Err, IfErr, Ok, Result, ℕ, List, None, Option, Some, inl, inr, subst, sym}
+use Rattle.std.proofs.Common.{◌≡◌, ◌++◌, ◌∙◌, Err, IfErr, Ok, Result, ℕ, List, None, Option, Some, inl, inr, subst, sym}
 use Rattle.std.specs.Io.KnownBytes.{Consumes}
 use Rattle.std.specs.Prelude.{IfSome}
 use Rattle.state_source.proofs.Rests.{of_as, of_more}

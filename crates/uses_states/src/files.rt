@@ -3,12 +3,15 @@
 ghost use Rattle.std.specs.Prelude.{All, IfOk};
 ghost use Rattle.result_text.specs.Printable.{IsKeyOf};
 
+use par_io::MemSource;
 use par_model::{AggState, Item, ItemKind, NO_VALUES, SlotState};
 use partial_agg::{GroupMap, Groups};
+use state_front::FrontFault;
 use state_head::{Head, KeyRange, Place, PlanWords, Rows, Stretch, Whole};
 use state_lanes::Lane;
-use state_load::add_files;
+use state_load::{LoadCause, LoadFault, add_files};
 use state_save::push_file;
+use state_source::{SourceFault, add_source, read_first};
 use state_whole::{Kept, Shape, Sum};
 use std::alloc::Global;
 use std::test::Fail;
@@ -117,6 +120,49 @@ fn loaded(rt: HostRuntime) -> Result<(), Fail> {
     let files = add_files(rt.alloc(), &mut sum, FILE, WHOLE, RANGE, &SHAPE);
     assert!(rt; files == Ok(1));
     assert!(rt; sum.map.len() == 1 && sum.cover.as_slice() == [STRETCH].as_slice());
+    Ok(())
+}
+
+/// 1,000 files, which are more than a few reads take, and then these bytes, as a source brings them; the reads with these numbers fail.
+fn added(rt: &HostRuntime, after: &[u8], fail: &[u64]) -> Result<Result<u64, SourceFault>, Fail> {
+    let mut bytes = Vec::new(rt.alloc());
+    for _ in 0..1000 {
+        bytes.extend_from_slice(FILE)?;
+    }
+    bytes.extend_from_slice(after)?;
+    let mut source = MemSource::new(bytes, 5000, Vec::from_slice(rt.alloc(), fail)?);
+    let first = match read_first(rt.alloc(), &mut source) {
+        Ok(first) => first,
+        Err(why) => return Ok(Err(why)),
+    };
+    let kept = Kept {
+        columns: 1,
+        range: RANGE,
+    };
+    let mut sum = Sum::new(rt.alloc(), kept);
+    Ok(add_source(
+        rt.alloc(),
+        &mut sum,
+        &first,
+        &mut source,
+        WHOLE,
+        RANGE,
+        &SHAPE,
+    ))
+}
+
+#[test]
+fn streamed(rt: HostRuntime) -> Result<(), Fail> {
+    assert!(rt; added(&rt, b"", &[])? == Ok(1000));
+    let fault = LoadFault {
+        file: 1001,
+        why: LoadCause::Front {
+            why: FrontFault::NoStates,
+        },
+    };
+    assert!(rt; added(&rt, b"parstream", &[])? == Err(SourceFault::Load { fault }));
+    assert!(rt; added(&rt, b"", &[3])? == Err(SourceFault::ReadFault));
+    assert!(rt; added(&rt, b"", &[20])? == Err(SourceFault::ReadFault));
     Ok(())
 }
 

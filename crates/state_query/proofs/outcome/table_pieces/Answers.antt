@@ -1,10 +1,10 @@
-use Rattle.std.proofs.Common.{◌++◌, inr, ℕ, List, subst, sym}
+use Rattle.std.proofs.Common.{◌++◌, inr, subst, sym}
 use Rattle.result_text.specs.Pieces.{joined}
 use Rattle.state_finalize.specs.Finished.{IsFinished}
 use Rattle.state_finalize.specs.declared.finishing.Finished.{Finished}
 use Rattle.state_source.proofs.Rests.{of_as, of_more}
 use Rattle.state_query.specs.Inputs.{IsLoaded, IsTableOf, all_keys}
-use Rattle.state_query.specs.Whys.{IsReadStop, IsStopOf}
+use Rattle.state_query.specs.Whys.{IsReadStop}
 use Rattle.state_query.proofs.Ends.{has_row, keys_by_plan, not_finished, stretches_loaded, table_of}
 use Rattle.state_query.proofs.Known.{no_read}
 use Rattle.state_query.proofs.outcome.table_pieces.Goals as goal

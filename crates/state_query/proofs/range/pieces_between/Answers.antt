@@ -1,4 +1,4 @@
-use Rattle.std.proofs.Common.{◌++◌, inr, ℕ, List, length, subst, sym}
+use Rattle.std.proofs.Common.{◌++◌, inr, length, subst, sym}
 use Rattle.result_text.specs.Pieces.{joined}
 use Rattle.state_finalize.specs.Finished.{IsFinishedWithin}
 use Rattle.state_finalize.specs.declared.finishing.Finished.{Finished}
@@ -7,7 +7,7 @@ use Rattle.state_plan.specs.declared.file_plan.FilePlan.{FilePlan}
 use Rattle.state_source.proofs.Rests.{of_as}
 use Rattle.state_query.specs.Inputs.{IsLoaded, groups_in}
 use Rattle.state_query.specs.Ranges.{IsEndOf, IsRangeText}
-use Rattle.state_query.specs.Whys.{IsReadStop, IsStopOf}
+use Rattle.state_query.specs.Whys.{IsReadStop}
 use Rattle.state_query.proofs.Ends.{keys_by_plan, loaded_within, stretches_loaded}
 use Rattle.state_query.proofs.Known.{no_read}
 use Rattle.state_query.proofs.Ranges.{not_within, range_text, row_within}

@@ -1,4 +1,4 @@
-use Rattle.std.proofs.Common.{◌++◌, ℕ, List}
+use Rattle.std.proofs.Common.{◌++◌}
 use Rattle.std.proofs.lemmas.Result.{err_from_is_err_and}
 use Rattle.state_source.specs.Reading.{OfLeft}
 use Rattle.state_query.specs.Ranges.{IsRangeReadStop}
