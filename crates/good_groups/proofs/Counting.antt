@@ -1,7 +1,7 @@
 -- What was counted of rows, with one row more.
-use Rattle.std.proofs.Common.{◌≡◌, ◌<◌, ◌+◌, ◌++◌, ◌^◌, ◌∙◌, ℕ, List, [], ◌∷◌, All, None, Option, Some, true, false, ap, append-nil, arith, length, length-append, map, refl, subst, sym}
-use Rattle.std.specs.Prelude.{is_some, option_map}
-use Rattle.std.specs.List.{cons_option, enumerate_from, filter_map}
+use Rattle.std.proofs.Common.{◌≡◌, ◌<◌, ◌≤◌, ◌+◌, ◌++◌, ◌^◌, ◌∙◌, ℕ, List, [], ◌∷◌, All, None, Option, Some, true, false, ap, append-nil, arith, length, length-append, map, refl, subst, sym}
+use Rattle.std.specs.Prelude.{is_none, is_some, option_map}
+use Rattle.std.specs.List.{cons_option, enumerate_from, filter_map, list_all}
 use Rattle.std.proofs.lemmas.List.Elements.{All-cons, All-nil, filter_map-append}
 use Rattle.par_model.specs.Plan.{Plan}
 use Rattle.par_model.specs.Refuse.{numbered_refusal, refusal, refused_rows}
@@ -12,6 +12,8 @@ use Rattle.stream_groups.specs.Stops.{Tells}
 use Rattle.stream_groups.specs.Ways.{of_text}
 use Rattle.stream_groups.specs.declared.stop.Stop.TheVariants as stop
 use Rattle.stream_groups.specs.declared.stop.RefusedRow.{RefusedRow}
+use Rattle.good_rows.specs.Good.{is_good}
+use Rattle.good_rows.proofs.Left.{both_of}
 use Rattle.good_groups.specs.Counted.{HasCounted, IsFirst}
 use Rattle.good_groups.specs.Opened.{Opened}
 use Rattle.good_groups.specs.declared.tally.Tally.{Tally}
@@ -91,6 +93,25 @@ module _ (plan : Plan) (width : ℕ) where
       ap length (refused_apart rows (row ∷ []) ∙ ap (λ (l : List (ℕ × Refusal)). refused_rows plan width rows ++ map (later_by (length rows)) l) (one_more 1 row [] ∙ ap (λ (o : Option Refusal). with_refusal o 1 []) bad))
       ∙ length-append (refused_rows plan width rows) ((1 + length rows, why) ∷ [])
 
+  -- rows of which none is refused
+  accepted_one : (row : List (List ℕ)) → is_good plan width row ≡ true → refusal plan width row ≡ None
+  accepted_one row good = go (refusal plan width row) good
+    where
+      go : (o : Option Refusal) → is_none o ≡ true → o ≡ None
+      go None is = refl
+      go (Some why) is = let bad : false ≡ true = is in cc bad
+
+  good_from : (n : ℕ) (more : Table) → list_all (is_good plan width) more ≡ true → refused_from n more ≡ []
+  good_from n [] good = refl
+  good_from n (x ∷ more) good =
+      let both = both_of (is_good plan width x) (list_all (is_good plan width) more) good in
+      one_more n x more ∙ ap (λ (o : Option Refusal). with_refusal o n (refused_from (n + 1) more)) (accepted_one x both.0) ∙ good_from (n + 1) more both.1
+
+  pub refused_good : (rows more : Table) → list_all (is_good plan width) more ≡ true → refused_rows plan width (rows ++ more) ≡ refused_rows plan width rows
+  unfolding refused_rows
+  refused_good rows more good =
+      refused_apart rows more ∙ ap (λ (l : List (ℕ × Refusal)). refused_rows plan width rows ++ map (later_by (length rows)) l) (good_from 1 more good) ∙ append-nil (refused_rows plan width rows)
+
 module _ (o : Opened) (bound : Plan) where
   -- no row
   pub count_none : (t n : Tally) (rows : Table) (more : Table) → more ≡ [] → n.rows ≡ t.rows → n.count ≡ t.count → n.first ≡ t.first → HasCounted o bound t rows → HasCounted o bound n (rows ++ more)
@@ -144,3 +165,17 @@ module _ (o : Opened) (bound : Plan) where
   pub first_later : (rows more : Table) (f : Option RefusedRow) → is_some f ≡ true → IsFirst o bound rows f → IsFirst o bound more f
   first_later rows more None some is = let bad : false ≡ true = some in cc bad
   first_later rows more (Some r) some is = is
+
+  first_all : (rows more : Table) (f : Option RefusedRow) → list_all (is_good bound (length o.header)) more ≡ true → IsFirst o bound rows f → IsFirst o bound (rows ++ more) f
+  first_all rows more None good is = refused_good bound (length o.header) rows more good ∙ is
+  first_all rows more (Some r) good is = is
+
+  -- good rows
+  pub count_all : (t n : Tally) (rows more : Table) → list_all (is_good bound (length o.header)) more ≡ true → n.rows ≡ t.rows + length more → n.rows ≤ 2 ^ 50 → n.count ≡ t.count → n.first ≡ t.first → HasCounted o bound t rows → HasCounted o bound n (rows ++ more)
+  count_all t n rows more good next few same_count same_first has = record {
+    number = omega (arith, next, has.number, length-append rows more);
+    few = few;
+    count = same_count ∙ has.count ∙ sym (ap length (refused_good bound (length o.header) rows more good));
+    most = omega (arith, has.most, same_count);
+    first = subst (IsFirst o bound (rows ++ more)) (sym same_first) (first_all rows more t.first good has.first);
+  }

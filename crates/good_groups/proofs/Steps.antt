@@ -1,13 +1,15 @@
 -- What a sifter is after a line went on or ended.
 use Rattle.std.proofs.Common.{◌≡◌, ◌⊎◌, inl, inr, ◌<◌, ◌≤◌, ◌+◌, ◌++◌, ◌^◌, ◌∙◌, ℕ, Bool, true, false, List, [], ◌∷◌, Option, None, Some, IfSome, ap, append-nil, arith, drop, length, length-drop, refl, subst, suc, sym, take, zero}
 use Rattle.std.specs.Prelude.{◌==◌, if◌then◌else◌, option_map, slice_index}
-use Rattle.std.proofs.lemmas.List.{get_or-drop}
+use Rattle.std.proofs.lemmas.List.{drop_more, get_or-drop}
 use Rattle.std.specs.List.{list_all}
 use Rattle.std.specs.Io.KnownBytes.{IsAtEnd, Keeps, prepend_known}
 use Rattle.csv_rows.specs.Cuts.{IsCut}
 use Rattle.csv_rows.specs.Places.{place_after}
 use Rattle.csv_rows.specs.Readings.{records_as}
+use Rattle.csv_rows.proofs.Scans.{place-append}
 use Rattle.csv_rows.specs.declared.place.Place.{Place}
+use Rattle.csv_rows.specs.declared.place.Place.TheVariants as place
 use Rattle.par_model.specs.Refuse.{refusal}
 use Rattle.par_model.specs.declared.refusal.Refusal.{Refusal}
 use Rattle.row_windows.specs.Seams.{BeginsLine, is_line_end}
@@ -24,7 +26,8 @@ use Rattle.good_groups.specs.Sifting.{GoesOn as Goes}
 use Rattle.good_groups.specs.declared.sieve.Sifting.{Sifting}
 use Rattle.good_groups.specs.declared.sifter.Rules.{Rules}
 use Rattle.good_groups.specs.declared.sifter.Sifter.{Sifter}
-use Rattle.good_groups.proofs.Texts.{all_read, begins_part, begun_cut, closed_left, closed_read, is_part, moved_left, moved_read}
+use Rattle.stream_groups.proofs.Windows.{begins_longer}
+use Rattle.good_groups.proofs.Texts.{all_read, begins_part, begun_cut, closed_left, closed_read, is_part, leapt_left, lines_cut, moved_left, moved_read}
 
 pub sifts_none : (r : Rules) (s : Sifter) → Sifts r s s
 sifts_none r s = record { left = λ left. refl; counts = λ o left are is. is }
@@ -64,6 +67,33 @@ module _ (r : Rules) (s n : Sifter) where
   next_begins c rest line None ends cut = tt
   next_begins c rest line (Some more) ends cut = inr (begins_one c (rest ++ more) ends, cut)
 
+  -- the rows of some lines that end were counted, and the next line begins
+  opens_over : (text : List ℕ) (c : ℕ) (rest : List ℕ) (q : Place) → ends_here q c ≡ true → BeginsLine text → IsCut text → n.pending ≡ rest → n.line.items ≡ c ∷ [] → n.place ≡ place_after q (c ∷ []) → Counts r text s.tally n.tally
+      → n.tally.feeds ≡ s.tally.feeds + count_feeds text → n.tally.feeds ≤ 2 ^ 60 → (o : Opened) (left : Option (List ℕ)) → AreRules o r → (is : IsOpen o left r s)
+      → HasRead o.query.reading o.from (prepend_known (c ∷ rest) left) (o.header ∷ is.rows) s.tally.feeds text → IsOpen o left r n
+  opens_over text c rest q ends begins cut now line at counts feeds few o left are is read =
+      let is_end = ends_cases q c ends in
+      let old = prepend_known (c ∷ rest) left in
+      let next_is = next_begins c rest text left is_end.0 cut in
+      let w = line_stretch r text in
+      let next : IsNext o old r s.tally.feeds is.rows text [] = record {
+        part = is_part o.query.reading (o.header ∷ is.rows) s.tally.feeds w o.from old read next_is;
+        begins = begins_part o.query.reading (o.header ∷ is.rows) s.tally.feeds w o.from old read next_is;
+        cut = is.cut;
+      } in
+      record {
+        rows = is.rows ++ records_as o.query.reading text;
+        counted = counts o old is.rows [] are next is.counted;
+        begun = subst (λ (t : List ℕ). IsBegun t n.place) (sym line) (subst (IsBegun (c ∷ [])) (sym at) (begun_one q c is_end.0 is_end.1));
+        cut = is.cut;
+        few = few;
+        read =
+            subst (λ (m : ℕ). HasRead o.query.reading o.from (prepend_known n.pending left) (o.header ∷ (is.rows ++ records_as o.query.reading text)) m n.line.items) (sym feeds)
+            (subst (λ (t : List ℕ). HasRead o.query.reading o.from (prepend_known n.pending left) (o.header ∷ (is.rows ++ records_as o.query.reading text)) (s.tally.feeds + count_feeds text) t) (sym line)
+            (subst (λ (t : List ℕ). HasRead o.query.reading o.from (prepend_known t left) (o.header ∷ (is.rows ++ records_as o.query.reading text)) (s.tally.feeds + count_feeds text) (c ∷ [])) (sym now)
+            (closed_read o.query.reading o.from left (o.header ∷ is.rows) s.tally.feeds text rest c is_end.0 cut begins read)));
+      }
+
   -- a line ends, and the next one begins
   pub sifts_over : (c : ℕ) (rest : List ℕ) → s.pending ≡ c ∷ rest → ends_here s.place c ≡ true → n.pending ≡ rest → n.line.items ≡ c ∷ [] → n.place ≡ place_after s.place (c ∷ []) → n.ahead ≡ s.ahead ++ line_left (keeps r) s.line.items
       → Counts r s.line.items s.tally n.tally → n.tally.feeds ≡ s.tally.feeds + count_feeds s.line.items → n.tally.feeds ≤ 2 ^ 60 → Sifts r s n
@@ -72,31 +102,30 @@ module _ (r : Rules) (s n : Sifter) where
         ap (λ (t : List ℕ). left_by (keeps r) left s.ahead t s.line.items s.place) pending ∙ closed_left (keeps r) s.ahead rest s.line.items s.place c left ends
         ∙ same_left (keeps r) left (s.ahead ++ line_left (keeps r) s.line.items) n.ahead rest n.pending (c ∷ []) n.line.items (place_after s.place (c ∷ [])) n.place ahead now line at;
     counts = λ o left are is.
-        let is_end = ends_cases s.place c ends in
-        let old = prepend_known (c ∷ rest) left in
-        let cut = begun_cut s.line.items s.place is.begun is_end.1 in
-        let read : HasRead o.query.reading o.from old (o.header ∷ is.rows) s.tally.feeds s.line.items =
+        let read : HasRead o.query.reading o.from (prepend_known (c ∷ rest) left) (o.header ∷ is.rows) s.tally.feeds s.line.items =
         subst (λ (t : List ℕ). HasRead o.query.reading o.from (prepend_known t left) (o.header ∷ is.rows) s.tally.feeds s.line.items) pending is.read in
-        let begins = next_begins c rest s.line.items left is_end.0 cut in
-        let w = line_stretch r s.line.items in
-        let next : IsNext o old r s.tally.feeds is.rows s.line.items [] = record {
-          part = is_part o.query.reading (o.header ∷ is.rows) s.tally.feeds w o.from old read begins;
-          begins = begins_part o.query.reading (o.header ∷ is.rows) s.tally.feeds w o.from old read begins;
-          cut = is.cut;
-        } in
-        record {
-          rows = is.rows ++ records_as o.query.reading s.line.items;
-          counted = counts o old is.rows [] are next is.counted;
-          begun = subst (λ (t : List ℕ). IsBegun t n.place) (sym line) (subst (IsBegun (c ∷ [])) (sym at) (begun_one s.place c is_end.0 is_end.1));
-          cut = is.cut;
-          few = few;
-          read =
-              subst (λ (m : ℕ). HasRead o.query.reading o.from (prepend_known n.pending left) (o.header ∷ (is.rows ++ records_as o.query.reading s.line.items)) m n.line.items) (sym feeds)
-              (subst (λ (t : List ℕ). HasRead o.query.reading o.from (prepend_known n.pending left) (o.header ∷ (is.rows ++ records_as o.query.reading s.line.items)) (s.tally.feeds + count_feeds s.line.items) t) (sym line)
-              (subst (λ (t : List ℕ). HasRead o.query.reading o.from (prepend_known t left) (o.header ∷ (is.rows ++ records_as o.query.reading s.line.items)) (s.tally.feeds + count_feeds s.line.items) (c ∷ [])) (sym now)
-              (closed_read o.query.reading o.from left (o.header ∷ is.rows) s.tally.feeds s.line.items rest c is_end.0 cut is.begun.begins read)));
-        };
+        opens_over s.line.items c rest s.place ends is.begun.begins (begun_cut s.line.items s.place is.begun (ends_cases s.place c ends).1) now line at counts feeds few o left are is read;
   }
+
+  -- whole lines without a refused row end, and the next one begins
+  pub sifts_leap : (at c : ℕ) (rest : List ℕ) → IsBegun s.line.items s.place → keeps r (s.line.items ++ take at s.pending) ≡ true → drop at s.pending ≡ c ∷ rest → ends_here (place_after s.place (take at s.pending)) c ≡ true
+      → n.pending ≡ rest → n.line.items ≡ c ∷ [] → n.place ≡ place_after (place_after s.place (take at s.pending)) (c ∷ []) → n.ahead ≡ s.ahead ++ (s.line.items ++ take at s.pending) → Counts r (s.line.items ++ take at s.pending) s.tally n.tally
+      → n.tally.feeds ≡ s.tally.feeds + count_feeds (s.line.items ++ take at s.pending) → n.tally.feeds ≤ 2 ^ 60 → Sifts r s n
+  sifts_leap at c rest begun good behind ends now line here ahead counts feeds few =
+      let text = s.line.items ++ take at s.pending in
+      let q = place_after s.place (take at s.pending) in
+      let begins = begins_longer s.line.items (take at s.pending) begun.begins in
+      let is_place : place_after place.Opens text ≡ q = place-append place.Opens s.line.items (take at s.pending) ∙ ap (λ (p : Place). place_after p (take at s.pending)) (sym begun.place) in
+      let cut = lines_cut text begins (λ quoted. (ends_cases q c ends).1 (sym is_place ∙ quoted)) in
+      record {
+        left = λ left.
+            leapt_left r.plan.now.reading r.bound.now r.width s.ahead s.pending s.line.items rest s.place at c left begun good behind ends
+            ∙ same_left (keeps r) left (s.ahead ++ text) n.ahead rest n.pending (c ∷ []) n.line.items (place_after q (c ∷ [])) n.place ahead now line here;
+        counts = λ o left are is.
+            let read : HasRead o.query.reading o.from (prepend_known (c ∷ rest) left) (o.header ∷ is.rows) s.tally.feeds text =
+            subst (λ (t : List ℕ). HasRead o.query.reading o.from (prepend_known t left) (o.header ∷ is.rows) s.tally.feeds text) behind (moved_read o.query.reading o.from left (o.header ∷ is.rows) s.tally.feeds s.line.items s.pending at is.read) in
+            opens_over text c rest q ends begins cut now line here counts feeds few o left are is read;
+      }
 
 -- what was not counted
 pub not_counted : (r : Rules) (s n : Sifter) → n ≡ record s { ahead = n.ahead; tally = n.tally } → n.tally.feeds ≡ s.tally.feeds → (o : Opened) (left : Option (List ℕ)) (is : IsOpen o left r s) → HasCounted o r.bound.now n.tally is.rows → IsOpen o left r n
@@ -180,6 +209,31 @@ module _ (r : Rules) (s : Sifter) (some : 0 < length s.pending) (ends : ends_her
             begun = subst (λ (t : List ℕ). IsBegun t b.place) (sym line_is) (subst (IsBegun (slice_index s.pending 0 ∷ [])) (sym place_is) (begun_one s.place (slice_index s.pending 0) is_end.0 is_end.1));
             few = omega (arith, few, ap (λ x. x.tally.feeds) begun_is);
           }
+
+-- ---- whole lines that are closed at once, and then another one is begun
+
+pub leap_ends : (r : Rules) (s m n : Sifter) (skipped : List ℕ) (at : ℕ) (q : Place) (text : List ℕ) → IsReady r s → at < length s.pending → ends_here q (slice_index s.pending at) ≡ true → q ≡ place_after s.place (take at s.pending)
+    → text ≡ s.line.items ++ take at s.pending → m.pending ≡ s.pending → m.ahead ≡ s.ahead ++ text → keeps r text ≡ true → Counts r text s.tally m.tally → m.tally.feeds ≡ s.tally.feeds + count_feeds text → m.tally.feeds ≤ 2 ^ 60 → skipped ≡ drop at m.pending
+    → n ≡ record m { line = n.line; place = n.place; pending = drop 1 skipped } → n.line.items ≡ take 1 skipped → n.place ≡ place_after q (take 1 skipped) → IsReady r n × Sifts r s n
+leap_ends r s m n skipped at q text ready within ends place is pending ahead good counts feeds few skips same line at_place =
+    let c = slice_index s.pending at in
+    let rest = drop (at + 1) s.pending in
+    let is_end = ends_cases q c ends in
+    let behind : drop at s.pending ≡ c ∷ rest = drop_more s.pending at 0 within in
+    let left : skipped ≡ c ∷ rest = skips ∙ ap (drop at) pending ∙ behind in
+    let line_is : n.line.items ≡ c ∷ [] = line ∙ ap (take 1) left in
+    let here : n.place ≡ place_after q (c ∷ []) = at_place ∙ ap (place_after q) (ap (take 1) left) in
+    let tally : n.tally ≡ m.tally = ap (λ (x : Sifter). x.tally) same in (
+      record {
+        columns = ready.columns;
+        header = ready.header;
+        begun = subst (λ (t : List ℕ). IsBegun t n.place) (sym line_is) (subst (IsBegun (c ∷ [])) (sym here) (begun_one q c is_end.0 is_end.1));
+        few = omega (arith, few, ap (λ t. t.feeds) tally);
+      },
+      sifts_leap r s n at c rest ready.begun (subst (λ (t : List ℕ). keeps r t ≡ true) is good) behind (subst (λ (p : Place). ends_here p c ≡ true) place ends) (ap (λ (x : Sifter). x.pending) same ∙ ap (drop 1) left) line_is
+          (here ∙ ap (λ (p : Place). place_after p (c ∷ [])) place) (ap (λ (x : Sifter). x.ahead) same ∙ ahead ∙ ap (λ (t : List ℕ). s.ahead ++ t) is) (subst (λ (t : List ℕ). Counts r t s.tally n.tally) is (subst (Counts r text s.tally) (sym tally) counts))
+          (ap (λ t. t.feeds) tally ∙ feeds ∙ ap (λ (t : List ℕ). s.tally.feeds + count_feeds t) is) (omega (arith, few, ap (λ t. t.feeds) tally)),
+    )
 
 -- ---- the last line
 

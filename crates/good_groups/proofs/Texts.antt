@@ -15,9 +15,11 @@ use Rattle.row_windows.specs.Seams.{BeginsLine, is_line_end}
 use Rattle.row_windows.specs.Stretch.{Fills, Stretch}
 use Rattle.text_lines.specs.Feeds.{count_feeds}
 use Rattle.text_lines.proofs.Parts.{no_mark}
+use Rattle.par_model.specs.Plan.{Plan}
+use Rattle.good_rows.specs.Good.{has_good}
 use Rattle.good_rows.specs.Judging.{GoesOn}
 use Rattle.good_rows.specs.Lines.{IsBegun, ends_here, left_of, line_left}
-use Rattle.good_rows.proofs.Left.{begins_one}
+use Rattle.good_rows.proofs.Left.{all_left, begins_one}
 use Rattle.stream_groups.specs.Reading.{Begins, HasPart, HasRead}
 use Rattle.stream_groups.proofs.ReadAs.{as_add_up}
 use Rattle.stream_groups.proofs.Windows.{begins_longer, filled}
@@ -25,6 +27,10 @@ use Rattle.stream_groups.proofs.Windows.{begins_longer, filled}
 -- outside quotes, a line is cut at its end
 pub begun_cut : (line : List ℕ) (p : Place) → IsBegun line p → p ≢ place.Quoted → IsCut line
 begun_cut line p b apart = ap ends_quoted (no_mark line b.begins) ∙ scan-cut line (λ quoted. apart (b.place ∙ quoted))
+
+-- so are lines that begin with the end of a line
+pub lines_cut : (text : List ℕ) → BeginsLine text → place_after place.Opens text ≢ place.Quoted → IsCut text
+lines_cut text begins apart = ap ends_quoted (no_mark text begins) ∙ scan-cut text apart
 
 -- ---- a line goes on
 
@@ -80,6 +86,22 @@ pub closed_read : (reading : Reading) (from left : Option (List ℕ)) (records :
 closed_read reading from left records feeds line rest c ends cut begins read =
     (filled reading from (prepend_known (c ∷ rest) left) (prepend_known rest left) line line (c ∷ []) records feeds false read ((c ∷ []), one_moves c rest left, refl) (λ e. let bad : false ≡ true = e in cc bad)
     (λ _. record { whole = cut; line = begins_one c [] ends }) (λ _. begins)).more refl
+
+-- ---- whole lines
+
+-- lines without a refused row are left
+pub leapt_left : (reading : Reading) (plan : Plan) (width : ℕ) (ahead pending line rest : List ℕ) (p : Place) (at c : ℕ) (left : Option (List ℕ)) → IsBegun line p → has_good reading plan width (line ++ take at pending) ≡ true → drop at pending ≡ c ∷ rest
+    → ends_here (place_after p (take at pending)) c ≡ true
+    → prepend_known ahead (option_map (left_of (has_good reading plan width) p line) (prepend_known pending left))
+    ≡ prepend_known (ahead ++ (line ++ take at pending)) (option_map (left_of (has_good reading plan width) (place_after (place_after p (take at pending)) (c ∷ [])) (c ∷ [])) (prepend_known rest left))
+leapt_left reading plan width ahead pending line rest p at c None begun good behind ends = refl
+leapt_left reading plan width ahead pending line rest p at c (Some more) begun good behind ends =
+    let k = has_good reading plan width in
+    let parts : pending ++ more ≡ take at pending ++ c ∷ (rest ++ more) =
+    ap (λ (t : List ℕ). t ++ more) (sym (take-append-drop at pending)) ∙ append_assoc (take at pending) (drop at pending) more ∙ ap (λ (t : List ℕ). take at pending ++ (t ++ more)) behind in
+    let after = left_of k (place_after (place_after p (take at pending)) (c ∷ [])) (c ∷ []) (rest ++ more) in
+    ap (λ (t : List ℕ). Some (ahead ++ t)) (ap (left_of k p line) parts ∙ all_left reading plan width line (take at pending) (rest ++ more) p c begun good ends)
+    ∙ ap Some (sym (append_assoc ahead (line ++ take at pending) after))
 
 -- ---- a line is one of the bytes
 

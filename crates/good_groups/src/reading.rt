@@ -57,8 +57,8 @@ pub struct GoodGroups {
 const FIRST_BYTES: usize = 4096;
 
 /// Reads the whole source as `read_input` of `stream_groups` does, but leaves out the rows that are refused, if there are at
-/// most so many of them. If there are more the reason is the first one, as it is without. Each line is judged in the caller's
-/// thread, as it is read, with the memory of its fields.
+/// most so many of them. If there are more the reason is the first one, as it is without. Lines are judged in the caller's
+/// thread, as they are read, those of a piece at once, with the memory of their fields.
 pub fn read_good<R: Threads + Wait + Sync, S: Source, P: Progress>(
     rt: &R,
     alloc: Global,

@@ -219,6 +219,7 @@ fn sift(sifter: &mut Sifter, alloc: Global, rules: &Rules<'_>) -> Result<(), Hal
     ensures many { result ≡ Err halt.TooMany → (o : Opened) (left : Option (List ℕ)) → AreRules o rules.now → IsOpen o left rules.now sifter.old → HasTooMany o }
     ensures long { result ≡ Err halt.Long → MOST_RECORD_BYTES < length sifter.new.line.items }
 {
+    sifter.leap(alloc, rules);
     'lines: while !sifter.pending.is_empty() {
         sifter.step(alloc, rules)?;
     }

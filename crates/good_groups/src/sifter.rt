@@ -3,6 +3,7 @@
 ghost use Rattle.std.specs.Prelude.{◌≡◌, ◌≤◌, ◌<◌, ◌+◌, ◌++◌, ◌^◌, ◌∷◌, [], ℕ, List, Option, IfOk, OnErr, OnOk, drop, false, is_some, length, map, true, Err, Some, take};
 ghost use Rattle.csv_rows.specs.Readings.{exchanged, records_as};
 ghost use Rattle.csv_rows.specs.Records.{record_at};
+ghost use Rattle.par_model.specs.Columns.{HasColumns};
 ghost use Rattle.par_model.specs.Refuse.{refusal};
 ghost use Rattle.row_windows.specs.Seams.{BeginsLine};
 ghost use Rattle.csv_rows.specs.Places.{place_after};
@@ -18,7 +19,7 @@ use crate::bytes::Bytes;
 use crate::piece::Piece;
 use crate::tally::Tally;
 use csv_rows::{Place, Reading, RowStore, exchange, rows_as, scanned};
-use good_rows::{Judged, judge, line_end};
+use good_rows::{Judged, count_good, judge, last_end, line_end};
 use par_model::{BoundPlan, Refusal};
 use plan_spec::Plan;
 use row_windows::MOST_RECORD_BYTES;
@@ -67,6 +68,65 @@ pub(crate) struct Sifter {
 }
 
 impl Sifter {
+    /// Goes over all lines that were read whole, at once, if none of their rows is refused. If one is, or memory runs out, nothing
+    /// has changed.
+    pub(crate) fn leap(&mut self, alloc: Global, rules: &Rules<'_>)
+        requires ready { IsReady rules.now self.old }
+        ensures ready { IsReady rules.now self.new }
+        ensures sifts { Sifts rules.now self.old self.new }
+    {
+        let Some(end) = last_end(self.pending.left(), self.place) else {
+            return;
+        };
+        let had = self.line.len();
+        if end.at > MOST_RECORD_BYTES || had > MOST_RECORD_BYTES - end.at {
+            return;
+        }
+        let added = self.line.extend_from_slice(&self.pending.left()[..end.at]);
+        if added.is_err() {
+            return;
+        }
+        if !self.take_lines(alloc, rules) {
+            self.line.truncate(had);
+            return;
+        }
+        self.pending.skip(end.at);
+        self.place = end.place;
+        self.begin_line();
+    }
+
+    /// Counts the rows of the lines at hand and puts these behind the lines before them, if none of the rows is refused. If one is,
+    /// or memory runs out, nothing has changed. Says whether it did.
+    fn take_lines(&mut self, alloc: Global, rules: &Rules<'_>) -> bool
+        requires columns { HasColumns rules.now.bound.now rules.now.width }
+        requires few { self.old.tally.feeds ≤ 2 ^ 60 }
+        ensures same { self.new ≡ record self.old { ahead = self.new.ahead; tally = self.new.tally } }
+        ensures ahead { result ≡ true → self.new.ahead ≡ self.old.ahead ++ self.old.line.items }
+        ensures good { result ≡ true → keeps rules.now self.old.line.items ≡ true }
+        ensures counts { result ≡ true → Counts rules.now self.old.line.items self.old.tally self.new.tally }
+        ensures feeds { result ≡ true → self.new.tally.feeds ≡ self.old.tally.feeds + count_feeds self.old.line.items }
+        ensures few { self.new.tally.feeds ≤ 2 ^ 60 }
+        ensures not { result ≡ false → self.new ≡ self.old }
+    {
+        let lines = self.line.as_slice();
+        let Some(rows) = count_good(alloc, rules.plan.reading(), rules.bound, rules.width, lines)
+        else {
+            return false;
+        };
+        let Ok(feeds) = more_feeds(self.tally.feeds, lines) else {
+            return false;
+        };
+        if rows > MOST_ROWS || self.tally.rows > MOST_ROWS - rows {
+            return false;
+        }
+        if self.ahead.put(lines).is_err() {
+            return false;
+        }
+        self.tally.rows += rows;
+        self.tally.feeds = feeds;
+        true
+    }
+
     /// Goes on to the end of the line at hand, and over it, or to the end of what was read. There are such bytes.
     pub(crate) fn step(&mut self, alloc: Global, rules: &Rules<'_>) -> Result<(), Halt>
         requires some { 0 < length self.old.pending }

@@ -1,10 +1,11 @@
 -- What is left of a text whose lines are left out.
 use Rattle.std.proofs.Common.{◌≡◌, ◌≢◌, ◌<◌, ◌≤◌, ◌+◌, ◌-◌, ◌++◌, ◌∷◌, ◌∙◌, [], Bool, ℕ, List, true, false, ap, append-nil, append_assoc, arith, drop, inl, inr, length, length-append, map, refl, subst, sym, take}
-use Rattle.std.specs.Prelude.{◌==◌, ◌||◌, if◌then◌else◌, slice_index}
+use Rattle.std.specs.Prelude.{◌==◌, ◌&&◌, ◌||◌, if◌then◌else◌, slice_index}
 use Rattle.std.specs.List.{list_all}
 use Rattle.std.proofs.lemmas.Bool.{cases_Bool, cases_lt, eqb-true}
 use Rattle.std.proofs.lemmas.List.{drop_more, get_or_append_left, map-append, take-append-le, take_all, take_more}
 use Rattle.std.proofs.lemmas.List.Elements.{filter-append}
+use Rattle.std.proofs.lemmas.List.Folds.{list_all-append}
 use Rattle.csv_rows.specs.Cuts.{IsCut, ends_quoted}
 use Rattle.csv_rows.specs.Places.{after_byte, place_after}
 use Rattle.csv_rows.specs.Readings.{as_read, records_as}
@@ -236,3 +237,33 @@ goes_more start bytes at p c within is goes on =
 -- one byte of some
 pub one_byte : (bytes : List ℕ) (at : ℕ) → at < length bytes → take (at + 1 - at) (drop at bytes) ≡ slice_index bytes at ∷ []
 one_byte bytes at within = let one : at + 1 - at ≡ 1 = omega arith in ap (λ (n : ℕ). take n (drop at bytes)) one ∙ ap (take 1) (drop_more bytes at 0 within)
+
+-- ---- lines without a refused row
+
+pub both_of : (a b : Bool) → (a && b) ≡ true → (a ≡ true) × (b ≡ true)
+both_of true b is = (refl, is)
+both_of false b is = let bad : false ≡ true = is in cc bad
+
+module _ (reading : Reading) (plan : Plan) (width : ℕ) where
+  -- each of them is left
+  pub all_left : (line more rest : List ℕ) (p : Place) (c : ℕ) → IsBegun line p → has_good reading plan width (line ++ more) ≡ true → ends_here (place_after p more) c ≡ true
+      → left_of (has_good reading plan width) p line (more ++ c ∷ rest) ≡ (line ++ more) ++ left_of (has_good reading plan width) (place_after (place_after p more) (c ∷ [])) (c ∷ []) rest
+  unfolding left_of place_after
+  all_left line [] rest p c b good ends =
+      let same = append-nil line in
+      let kept : has_good reading plan width line ≡ true = ap (has_good reading plan width) (sym same) ∙ good in
+      rw (ends, kept, same) refl
+  all_left line (d ∷ more) rest p c b good ends = elim (cases_Bool (ends_here p d)) [
+    | inl here ↦
+        let is = ends_cases p d here in
+        let keeps = has_good reading plan width in
+        let parts = as_add_up reading line (d ∷ more) (begun_cut line p b.begins b.place is.1) (begins_one d more is.0) in
+        let both = both_of (keeps line) (keeps (d ∷ more)) (sym (list_all-append (is_good plan width) (records_as reading line) (records_as reading (d ∷ more))) ∙ ap (list_all (is_good plan width)) (sym parts) ∙ good) in
+        let later = all_left (d ∷ []) more rest (place_after p (d ∷ [])) c (begun_one p d is.0 is.1) both.1 ends in
+        rw (here, both.0) (ap (λ (t : List ℕ). line ++ t) later ∙ sym (append_assoc line (d ∷ more) (left_of keeps (place_after (place_after (place_after p (d ∷ [])) more) (c ∷ [])) (c ∷ []) rest)))
+    | inr goes ↦
+        let keeps = has_good reading plan width in
+        let same : (line ++ d ∷ []) ++ more ≡ line ++ d ∷ more = append_assoc line (d ∷ []) more in
+        let later = all_left (line ++ d ∷ []) more rest (place_after p (d ∷ [])) c (begun_more line p d b goes) (ap keeps same ∙ good) ends in
+        rw goes (later ∙ ap (λ (t : List ℕ). t ++ left_of keeps (place_after (place_after (place_after p (d ∷ [])) more) (c ∷ [])) (c ∷ []) rest) same)
+  ]

@@ -11,5 +11,5 @@ mod line;
 mod rating;
 
 pub use law::good_rows_are_left;
-pub use line::{LineEnd, line_end};
-pub use rating::{Judged, judge};
+pub use line::{LineEnd, last_end, line_end};
+pub use rating::{Judged, count_good, judge};

@@ -1,6 +1,6 @@
 //! Where a line ends.
 
-ghost use Rattle.std.specs.Prelude.{◌≡◌, ◌<◌, ◌≤◌, length, not, slice_index, true};
+ghost use Rattle.std.specs.Prelude.{◌≡◌, ◌<◌, ◌≤◌, IfSome, length, not, slice_index, take, true};
 ghost use Rattle.csv_rows.specs.Places.{is_quoted_place, place_after};
 ghost use Rattle.row_windows.specs.Seams.{is_line_end};
 ghost use Rattle.good_rows.specs.Judging.{GoesOn};
@@ -33,6 +33,35 @@ pub fn line_end(bytes: &[u8], start: Place) -> LineEnd
         at: bytes.len(),
         place,
     }
+}
+
+/// The last end of a line among some bytes, which a scan reaches at this place, unless the last byte that ends lines is between
+/// quotes. In linear time.
+pub fn last_end(bytes: &[u8], start: Place) -> Option<LineEnd>
+    ensures within { IfSome result (λ end. end.at < length bytes.now) }
+    ensures ends { IfSome result (λ end. ends_here end.place (slice_index bytes.now end.at) ≡ true) }
+    ensures place { IfSome result (λ end. end.place ≡ place_after start (take end.at bytes.now)) }
+{
+    let at = last_line_end(bytes)?;
+    let place = scanned(&bytes[..at], start);
+    if !ends_here(place, bytes[at]) {
+        return None;
+    }
+    Some(LineEnd { at, place })
+}
+
+/// The last byte that ends lines.
+fn last_line_end(bytes: &[u8]) -> Option<usize>
+    ensures { IfSome result (λ at. at < length bytes.now) }
+{
+    let mut at = bytes.len();
+    'bytes: while at > 0 {
+        at -= 1;
+        if ends_line(bytes[at]) {
+            return Some(at);
+        }
+    }
+    None
 }
 
 /// Whether a line ends in front of a byte.

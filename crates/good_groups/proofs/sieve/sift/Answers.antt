@@ -1,9 +1,9 @@
 use Rattle.std.proofs.Common.{rules}
-use Rattle.good_groups.proofs.Steps.{sifts_none, sifts_then}
+use Rattle.good_groups.proofs.Steps.{sifts_then}
 use Rattle.good_groups.proofs.sieve.sift.Goals as goal
 
 pub lines-init : goal.lines-init
-lines-init c = record { ready = c.requires.ready; sifts = sifts_none c.args.rules.now c.args.sifter.now }
+lines-init c = record { ready = c.leap.ensures.ready; sifts = c.leap.ensures.sifts }
 
 pub lines-preserved : goal.lines-preserved
 lines-preserved c = record {
