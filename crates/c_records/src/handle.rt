@@ -124,15 +124,15 @@ impl Handle {
     }
 
     /// As `Caller::try_get`: if the key is there, its record is written.
-    pub fn try_get(&mut self, alloc: Global, key: u64, record: &mut Record) -> Code
-        ensures { Changes self.old.value self.new.value key Get record.old record.new result }
+    pub fn try_get(&mut self, alloc: Global, key: u64, value: &mut Record) -> Code
+        ensures { Changes self.old.value self.new.value key Get value.old value.new result }
     {
         let Some(mut caller) = self.take(alloc) else {
             return Code::Blank;
         };
         let answer = caller.try_get(key);
         self.put(caller);
-        told(answer, record)
+        told(answer, value)
     }
 
     /// As `Caller::try_change`: if the key was there, the record before is written.
@@ -141,16 +141,16 @@ impl Handle {
         alloc: Global,
         key: u64,
         call: RecordCall,
-        record: &mut Record,
+        value: &mut Record,
     ) -> Code
-        ensures { Changes self.old.value self.new.value key call record.old record.new result }
+        ensures { Changes self.old.value self.new.value key call value.old value.new result }
     {
         let Some(mut caller) = self.take(alloc) else {
             return Code::Blank;
         };
         let answer = caller.try_change(key, call);
         self.put(caller);
-        told(answer, record)
+        told(answer, value)
     }
 
     /// As `Caller::try_count`: the number is written.
@@ -195,12 +195,12 @@ impl Handle {
 }
 
 /// Writes the record of an answer, if it has one.
-fn told(answer: Result<Option<Record>, Code>, record: &mut Record) -> Code
-    ensures { Answers answer record.old record.new result }
+fn told(answer: Result<Option<Record>, Code>, value: &mut Record) -> Code
+    ensures { Answers answer value.old value.new result }
 {
     match answer {
         Ok(Some(found)) => {
-            *record = found;
+            *value = found;
             Code::Done
         }
         Ok(None) => Code::Absent,
