@@ -1,18 +1,20 @@
 -- Blocks that are passed over have no group that is kept.
-use Rattle.std.proofs.Common.{◌≡◌, ◌<◌, ◌&&◌, ◌||◌, ◌++◌, ◌∙◌, ℕ, Bool, true, false, List, [], ◌∷◌, All, ap, arith, cond, length, map, not, refl, sym}
+use Rattle.std.proofs.Common.{◌≡◌, ◌==◌, ◌<◌, ◌^◌, ◌&&◌, ◌||◌, ◌++◌, ◌∙◌, ℕ, Bool, true, false, List, [], ◌∷◌, All, ap, arith, cond, length, map, not, refl, sym}
 use Rattle.std.specs.List.{AllByRecursion}
 use Rattle.std.specs.List.Sorted.{IsStrictlySortedBy}
 use Rattle.std.specs.Ordering.{is_lt, ordering_reverse}
 use Rattle.std.specs.declared.cmp.Ordering.{Ordering}
 use Rattle.std.specs.declared.cmp.Ordering.TheVariants.{Equal, Greater, Less}
+use Rattle.std.proofs.lemmas.Bool.{true≢false}
 use Rattle.std.proofs.lemmas.List.Elements.{All-cons, All-head, All-nil, All-tail}
 use Rattle.par_model.specs.Table.{columns_cmp}
 use Rattle.partial_agg.specs.Groups.{GroupsByKey, added}
 use Rattle.result_text.specs.KeyColumns.{columns_in}
 use Rattle.result_text.proofs.Columns.{columns_total}
-use Rattle.state_blocks.specs.Blocks.{Group, IsBlock, first_key}
+use Rattle.state_blocks.specs.Blocks.{Group, IsBlock, IsTuple, block_bytes, blocks_bytes, first_key, tuple_bytes}
 use Rattle.state_body.specs.Body.{groups_of}
-use Rattle.state_head.specs.Words.{Keys, keys_of}
+use Rattle.state_file.specs.Section.{section}
+use Rattle.state_head.specs.Words.{keys_of}
 use Rattle.state_keep.specs.Passing.{AllOutside, BeginEarly}
 use Rattle.state_order.specs.Order.{Rise}
 use Rattle.state_order.specs.Ranges.{is_before, is_below, is_from, is_open, is_within}
@@ -61,6 +63,10 @@ no_high : (from below : Bool) → below ≡ false → (from && below) ≡ false
 no_high false below e = refl
 no_high true false e = refl
 no_high true true e = cc
+
+not_true : (b : Bool) → not b ≡ true → b ≡ false
+not_true true e = cc
+not_true false e = refl
 
 false_of : (b : Bool) → (b ≡ true → ⊥) → b ≡ false
 false_of true none = absurd (none refl)
@@ -132,3 +138,42 @@ pub rise_later : (n : ℕ) (gs more : List Group) → Rise n (map key_of (gs ++ 
 unfolding IsStrictlySortedBy
 rise_later n [] more rise = rise
 rise_later n (g ∷ gs) more rise = rise_later n gs more rise.1
+
+-- ---- the first key of some blocks
+
+pub early_of : (columns : ℕ) (kinds : List Bool) (kept : Kept) (later : List (List Group)) (after part key : List ℕ) (less : Bool) → All (IsBlock columns kinds) later → after ≡ blocks_bytes kinds later → 0 < length after
+    → ((p r : List ℕ) → length p < 2 ^ 32 → after ≡ section p ++ r → part ≡ p) → ((g : Group) (r : List ℕ) → IsTuple columns kinds g → part ≡ tuple_bytes kinds g ++ r → key ≡ g.key)
+    → is_open kept.range.low.now ≡ false → less ≡ is_before kept.columns kept.range.low.now key → not less ≡ true → BeginEarly kept later
+unfolding blocks_bytes block_bytes
+early_of columns kinds kept [] after part key less all e some split first closed test holds = absurd (omega (arith, some, ap length e))
+early_of columns kinds kept ([] ∷ later) after part key less all e some split first closed test holds =
+    let head = All-head (IsBlock columns kinds) [] later all in
+    let long = head.some in
+    absurd (omega (arith, long))
+early_of columns kinds kept ((h ∷ hs) ∷ later) after part key less all e some split first closed test holds =
+    let head = All-head (IsBlock columns kinds) (h ∷ hs) later all in
+    let short = head.short in
+    let p = split (block_bytes kinds (h ∷ hs)) (blocks_bytes kinds later) (omega (arith, short)) e in
+    let k = first h (block_bytes kinds hs) (All-head (IsTuple columns kinds) h hs head.each) p in
+    (closed, ap (is_before kept.columns kept.range.low.now) (sym k) ∙ sym test ∙ not_true less holds)
+
+pub past_of : (columns : ℕ) (kinds : List Bool) (kept : Kept) (block : List Group) (part key : List ℕ) (less : Bool) → IsBlock columns kinds block → part ≡ block_bytes kinds block
+    → ((g : Group) (r : List ℕ) → IsTuple columns kinds g → part ≡ tuple_bytes kinds g ++ r → key ≡ g.key)
+    → is_open kept.range.high.now ≡ false → less ≡ is_before kept.columns key kept.range.high.now → not less ≡ true → is_below kept.columns kept.range.high.now (first_key block) ≡ false
+unfolding block_bytes
+past_of columns kinds kept [] part key less is e first closed test holds =
+    let some = is.some in
+    absurd (omega (arith, some))
+past_of columns kinds kept (g ∷ gs) part key less is e first closed test holds =
+    let k = first g (block_bytes kinds gs) (All-head (IsTuple columns kinds) g gs is.each) e in
+    let no : is_before kept.columns g.key kept.range.high.now ≡ false = ap (λ (x : List ℕ). is_before kept.columns x kept.range.high.now) (sym k) ∙ sym test ∙ not_true less holds in
+    (λ i. closed i || no i)
+
+-- an end that has bytes is no open one
+pub is_closed : (low : List ℕ) (b : Bool) → b ≡ (length low == 0) → b ≡ false → is_open low ≡ false
+is_closed [] b e f = absurd (true≢false (sym e ∙ f))
+is_closed (x ∷ low) b e f = refl
+
+pub not_empty : (bs : List ℕ) (b : Bool) → b ≡ (length bs == 0) → b ≡ false → 0 < length bs
+not_empty [] b e f = absurd (true≢false (sym e ∙ f))
+not_empty (x ∷ bs) b e f = omega arith

@@ -2,7 +2,7 @@
 use Rattle.std.specs.Prelude.{◌≡◌, ◌∷◌, [], List, All, false}
 use Rattle.state_blocks.specs.Blocks.{Group, first_key}
 use Rattle.state_head.specs.Words.{keys_of}
-use Rattle.state_order.specs.Ranges.{is_before, is_from, is_open, is_within}
+use Rattle.state_order.specs.Ranges.{is_before, is_open, is_within}
 use Rattle.state_whole.specs.declared.adding.Kept.{Kept}
 
 -- no group is one that is kept

@@ -42,8 +42,8 @@ pub fn check_groups(
     let mut none = Sum::new(alloc, Kept { columns, range });
     match none.add_groups(blocks, front, shape) {
         Ok(()) => Ok(()),
-        // A sum that keeps no group has no group with too many rows, so this never comes.
-        Err(FileFault::Rows) => Err(FileFault::Memory),
-        Err(why) => Err(why),
+        Err(FileFault::Group { why }) => Err(FileFault::Group { why }),
+        // Nothing else comes but want of memory: a sum without groups has none with too many rows.
+        Err(_) => Err(FileFault::Memory),
     }
 }

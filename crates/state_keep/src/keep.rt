@@ -39,7 +39,7 @@ pub fn keep_blocks(
     kept: Kept<'_>,
 ) -> Result<(), KeepFault>
     requires { IsShape shape.now }
-    ensures { (bs : List (List Group)) → All (IsBlock shape.now.columns shape.now.kinds.now) bs → Rise kept.columns (map_list key_of (groups_of bs)) → blocks.now ≡ blocks_bytes shape.now.kinds.now bs
+    ensures { (bs : List (List Group)) → All (IsBlock shape.now.columns shape.now.kinds.now) bs → Rise kept.entry.columns (map_list key_of (groups_of bs)) → blocks.now ≡ blocks_bytes shape.now.kinds.now bs
         → MatchResult result (λ done. map.new ≡ kept_sum shape.now kept.entry map.old (groups_of bs)) (λ why. why ≡ fault.Memory) }
 {
     let mut rest = blocks;
@@ -61,7 +61,7 @@ fn keep_first<'a>(
 ) -> Result<&'a [u8], KeepFault>
     requires { IsShape shape.now }
     ensures kept { (block : List Group) (later : List (List Group)) → IsBlock shape.now.columns shape.now.kinds.now block → All (IsBlock shape.now.columns shape.now.kinds.now) later
-        → Rise kept.columns (map_list key_of (groups_of (block ∷ later))) → blocks.now ≡ section (block_bytes shape.now.kinds.now block) ++ blocks_bytes shape.now.kinds.now later
+        → Rise kept.entry.columns (map_list key_of (groups_of (block ∷ later))) → blocks.now ≡ section (block_bytes shape.now.kinds.now block) ++ blocks_bytes shape.now.kinds.now later
         → MatchResult result (λ after. (after.now ≡ blocks_bytes shape.now.kinds.now later) × (map.new ≡ kept_sum shape.now kept.entry map.old block)) (λ why. why ≡ fault.Memory) }
     ensures shorter { IfOk result (λ after. length after.now < length blocks.now) }
 {

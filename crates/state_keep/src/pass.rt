@@ -16,7 +16,7 @@ use state_whole::{Kept, Shape};
 pub(crate) fn is_passed(part: &[u8], after: &[u8], shape: &Shape<'_>, kept: Kept<'_>) -> bool
     requires { IsShape shape.now }
     ensures { (block : List Group) (later : List (List Group)) → IsBlock shape.now.columns shape.now.kinds.now block → All (IsBlock shape.now.columns shape.now.kinds.now) later
-        → Rise kept.columns (map_list key_of (groups_of (block ∷ later))) → part.now ≡ block_bytes shape.now.kinds.now block → after.now ≡ blocks_bytes shape.now.kinds.now later → result ≡ true → AllOutside kept.entry block }
+        → Rise kept.entry.columns (map_list key_of (groups_of (block ∷ later))) → part.now ≡ block_bytes shape.now.kinds.now block → after.now ≡ blocks_bytes shape.now.kinds.now later → result ≡ true → AllOutside kept.entry block }
 {
     is_past(part, shape, kept) || is_early(after, shape, kept)
 }
@@ -24,7 +24,7 @@ pub(crate) fn is_passed(part: &[u8], after: &[u8], shape: &Shape<'_>, kept: Kept
 /// Whether a block begins at the high end of what is kept, or after it.
 fn is_past(part: &[u8], shape: &Shape<'_>, kept: Kept<'_>) -> bool
     requires { IsShape shape.now }
-    ensures { (block : List Group) → IsBlock shape.now.columns shape.now.kinds.now block → part.now ≡ block_bytes shape.now.kinds.now block → result ≡ true → is_below kept.columns kept.range.high.now (first_key block) ≡ false }
+    ensures { (block : List Group) → IsBlock shape.now.columns shape.now.kinds.now block → part.now ≡ block_bytes shape.now.kinds.now block → result ≡ true → is_below kept.entry.columns kept.entry.range.high.now (first_key block) ≡ false }
 {
     let high = kept.range.high;
     if high.is_empty() {
