@@ -38,7 +38,7 @@ pub record AreDone (shape : Shape) (bytes : List ℕ) (olds news : List RangeMap
 
 -- there was memory
 abbrev pub IsFilled : RangeMap → Type 0
-IsFilled r = r.filled ≡ Ok ()
+IsFilled r = r.filled ≡ Ok tt
 
 -- a range has this fault
 pub record HasFault (ranges : List RangeMap) (why : KeepFault) : Type 0 where

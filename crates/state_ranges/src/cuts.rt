@@ -59,7 +59,8 @@ fn push_cut(
     }
     let mut cut = Vec::with_capacity(alloc, key.len())?;
     cut.extend_from_slice(key)?;
-    cuts.push(cut)
+    cuts.push(cut)?;
+    Ok(())
 }
 
 /// Whether a key has bytes, and comes after the last of some keys, if there are any.
