@@ -1,3 +1,3 @@
-mod Cuts
 mod Done
+mod Rising
 mod Within

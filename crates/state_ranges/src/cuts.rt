@@ -70,8 +70,9 @@ fn follows(cuts: &[Vec<u8>], key: &[u8], columns: u32) -> bool
     if key.is_empty() {
         return false;
     }
-    match cuts.last() {
-        Some(last) => compare_columns(last.as_slice(), key, columns).is_lt(),
-        None => true,
+    if cuts.is_empty() {
+        return true;
     }
+    let last = cuts[cuts.len() - 1].as_slice();
+    compare_columns(last, key, columns).is_lt()
 }

@@ -117,7 +117,10 @@ fn first_fault(ranges: &[RangeMap<'_>]) -> Result<(), KeepFault>
     ensures fault { IfErr result (HasFault ranges.now) }
 {
     for at in 0..ranges.len() {
-        ranges[at].filled?;
+        match ranges[at].filled {
+            Ok(()) => {}
+            Err(why) => return Err(why),
+        }
     }
     Ok(())
 }
