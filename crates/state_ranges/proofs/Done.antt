@@ -70,8 +70,8 @@ one_lacks shape columns bytes m bs olds news why done was all rise e has =
     let many = done.count in
     let before = has.before in
     let here : has.k < length olds = omega (arith, before, many) in
-    let did = done.each has.k has.r here in
-    let old = slice_index_or olds has.k has.r in
-    let rises = subst (λ (n : ℕ). Rise n (map key_of (groups_of bs))) (sym (was has.k has.r here).columns_are) rise in
-    let new = slice_index_or news has.k has.r in
-    lacks new.filled (new.map ≡ kept_sum shape old.kept old.map (groups_of bs)) why (ap (λ (r : RangeMap). r.filled) has.is ∙ has.has) (did.filled bs all rises e)
+    let did = done.each has.k has.or here in
+    let old = slice_index_or olds has.k has.or in
+    let new = slice_index_or news has.k has.or in
+    let rises = subst (λ (n : ℕ). Rise n (map key_of (groups_of bs))) (sym (was has.k has.or here).columns_are) rise in
+    lacks new.filled (new.map ≡ kept_sum shape old.kept old.map (groups_of bs)) why has.has (did.filled bs all rises e)

@@ -43,7 +43,6 @@ IsFilled r = r.filled ≡ Ok tt
 -- a range has this fault
 pub record HasFault (ranges : List RangeMap) (why : KeepFault) : Type 0 where
   pub k : ℕ
-  pub r : RangeMap
+  pub or : RangeMap
   pub before : k < length ranges
-  pub is : slice_index_or ranges k r ≡ r
-  pub has : r.filled ≡ Err why
+  pub has : (slice_index_or ranges k or).filled ≡ Err why

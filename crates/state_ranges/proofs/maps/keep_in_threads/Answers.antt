@@ -17,7 +17,7 @@ either (Ok x) P news all has done lacks = done all
 either (Err why) P news all has done lacks = lacks why has
 
 pub returns-clause-kept : goal.returns-clause-kept
-returns-clause-kept c = λ m bs was all rise e.
+returns-clause-kept g c = λ m bs was all rise e.
     let shape = c.args.shape.now in
     let olds = c.args.ranges.now.items in
     let news = c.fill_each.new.ranges.items in
@@ -27,4 +27,4 @@ returns-clause-kept c = λ m bs was all rise e.
     (λ filled. all_done shape shape.columns c.args.blocks.now m bs olds news c.fill_each.ensures was all rise e filled) (λ why has. one_lacks shape shape.columns c.args.blocks.now m bs olds news why c.fill_each.ensures was all rise e has)
 
 pub returns-clause-same : goal.returns-clause-same
-returns-clause-same c = same_kept c.args.shape.now c.args.blocks.now c.args.ranges.now.items c.fill_each.new.ranges.items c.fill_each.ensures
+returns-clause-same g c = same_kept c.args.shape.now c.args.blocks.now c.args.ranges.now.items c.fill_each.new.ranges.items c.fill_each.ensures
