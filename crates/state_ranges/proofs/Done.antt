@@ -3,7 +3,7 @@ use Rattle.std.proofs.Common.{◌≡◌, ◌<◌, ◌∙◌, Err, Ok, ℕ, List,
 use Rattle.partial_agg.specs.Groups.{GroupsByKey}
 use Rattle.state_blocks.specs.Blocks.{Group, IsBlock, blocks_bytes}
 use Rattle.state_body.specs.Body.{groups_of}
-use Rattle.state_head.specs.Words.{Keys, keys_of}
+use Rattle.state_head.specs.Words.{keys_of}
 use Rattle.state_keep.specs.declared.keep.KeepFault.{KeepFault}
 use Rattle.state_keep.specs.declared.keep.KeepFault.TheVariants as fault
 use Rattle.state_order.specs.Order.{Rise}

@@ -1,5 +1,5 @@
 -- Keys at which ranges begin.
-use Rattle.std.proofs.Common.{◌≡◌, ◌==◌, ◌<◌, ◌+◌, ◌||◌, ◌++◌, ◌∙◌, ℕ, zero, suc, Bool, true, false, List, [], ◌∷◌, ap, append_assoc, arith, drop, get_or, length, map, refl, subst, sym}
+use Rattle.std.proofs.Common.{◌≡◌, ◌==◌, ◌<◌, ◌+◌, ◌||◌, ◌++◌, ◌∙◌, ℕ, zero, suc, Bool, true, false, List, [], ◌∷◌, ap, append_assoc, arith, drop, get_or, length, map, refl, sym}
 use Rattle.std.proofs.Math.Seq.{drop-cons, drop-length}
 use Rattle.std.specs.Global.{Vec}
 use Rattle.std.proofs.lemmas.Bool.{true≢false}
@@ -51,7 +51,7 @@ next_range rs all low high cuts at d lt is e =
     let one : suc at ≡ at + 1 = omega arith in
     let left : drop at cuts ≡ get_or cuts at d ∷ drop (at + 1) cuts = drop-cons cuts at d lt ∙ ap (λ (n : ℕ). get_or cuts at d ∷ drop n cuts) one in
     let to : ranges_from low (map bytes_of (drop at cuts)) ≡ (record { low = low; high = high }) ∷ ranges_from high (map bytes_of (drop (at + 1) cuts)) =
-        ap (λ (cs : List (Vec ℕ)). ranges_from low (map bytes_of cs)) left ∙ ap (λ (h : List ℕ). (record { low = low; high = h }) ∷ ranges_from h (map bytes_of (drop (at + 1) cuts))) (sym is) in
+    ap (λ (cs : List (Vec ℕ)). ranges_from low (map bytes_of cs)) left ∙ ap (λ (h : List ℕ). (record { low = low; high = h }) ∷ ranges_from h (map bytes_of (drop (at + 1) cuts))) (sym is) in
     append_assoc rs ((record { low = low; high = high }) ∷ []) (ranges_from high (map bytes_of (drop (at + 1) cuts))) ∙ ap (λ (xs : List Keys). rs ++ xs) (sym to) ∙ e
 
 pub last_range : (rs all : List Keys) (low : List ℕ) (cuts : List (Vec ℕ)) (at : ℕ) → at ≡ length cuts → rs ++ ranges_from low (map bytes_of (drop at cuts)) ≡ all → rs ++ (record { low = low; high = [] }) ∷ [] ≡ all

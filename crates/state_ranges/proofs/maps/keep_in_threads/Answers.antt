@@ -1,15 +1,12 @@
-use Rattle.std.proofs.Common.{◌≡◌, ◌<◌, Err, Ok, List, All, IfErr, MatchResult, OnOk, Result, ap, map, subst, sym, ◌∙◌}
-use Rattle.partial_agg.specs.Groups.{GroupsByKey}
-use Rattle.state_blocks.specs.Blocks.{Group, IsBlock, blocks_bytes}
+use Rattle.std.proofs.Common.{◌≡◌, Err, Ok, List, All, IfErr, MatchResult, OnOk, Result, subst}
 use Rattle.state_body.specs.Body.{groups_of}
 use Rattle.state_keep.specs.declared.keep.KeepFault.{KeepFault}
 use Rattle.state_keep.specs.declared.keep.KeepFault.TheVariants as fault
-use Rattle.state_order.specs.Order.{Rise}
-use Rattle.state_ranges.specs.Parts.{AreDone, AreRangesOf, HasFault, IsFilled}
+use Rattle.state_ranges.specs.Parts.{AreRangesOf, HasFault, IsFilled}
 use Rattle.state_ranges.specs.declared.maps.RangeMap.{RangeMap}
 use Rattle.state_ranges.proofs.Done.{all_done, one_lacks, same_kept}
 use Rattle.state_ranges.proofs.maps.keep_in_threads.Goals as goal
-use Rattle.state_whole.specs.Adding.{key_of, sum_with}
+use Rattle.state_whole.specs.Adding.{sum_with}
 
 -- either all have taken the groups, or there was no memory
 either : (r : Result Unit KeepFault) (P : Type 0) (news : List RangeMap) → OnOk r (All IsFilled news) → IfErr r (HasFault news) → (All IsFilled news → P) → ((why : KeepFault) → HasFault news why → why ≡ fault.Memory) → MatchResult r (λ _. P) (λ why. why ≡ fault.Memory)
