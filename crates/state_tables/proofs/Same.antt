@@ -19,7 +19,7 @@ abbrev pub Distinct : List Group → Type 0
 Distinct groups = IsDistinct bytes_eq (map key_of_group groups)
 
 -- no element of the list has this key
-abbrev Differs : List ℕ → List Group → Type 0
+abbrev pub Differs : List ℕ → List Group → Type 0
 Differs key groups = AllByRecursion (λ y. bytes_eq key y ≡ false) (map key_of_group groups)
 
 uncons : {X : Type 0} (x g : X) (xs : List X) → Contains (x ∷ xs) g → (x ≡ g → Contains xs g) → Contains xs g
