@@ -8,8 +8,7 @@ use Rattle.std.specs.declared.cmp.Ordering.TheVariants.{Equal, Greater, Less}
 use Rattle.par_model.specs.Table.{columns_cmp}
 use Rattle.result_text.specs.KeyColumns.{columns_in}
 use Rattle.result_text.proofs.Columns.{columns_total}
-use Rattle.state_head.specs.Words.{Keys}
-use Rattle.state_order.specs.Ranges.{is_before, is_below, is_from, is_open, is_within}
+use Rattle.state_order.specs.Ranges.{is_before, is_below, is_from, is_open}
 
 pub is_less : (o : Ordering) → is_lt o ≡ true → o ≡ Less
 is_less Less e = refl

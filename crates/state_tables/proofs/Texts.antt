@@ -1,14 +1,13 @@
 -- The texts of the ranges between some keys, one after another, are the text of all groups.
 use Rattle.std.proofs.Common.{◌≡◌, ◌<◌, ◌≤◌, ◌&&◌, ◌||◌, ◌++◌, ◌∙◌, ℕ, Bool, true, false, List, [], ◌∷◌, All, Contains, None, Option, Some, ap, append-nil, append_assoc, arith, bytes_eq, cond, length, map, refl, subst, sym}
 use Rattle.std.proofs.lemmas.List.{get_or-map, length-map, map-append}
-use Rattle.std.proofs.lemmas.List.Elements.{All-append, All-contains, All-head, All-map, All-nil, All-tail, Contains-append_left, Contains-append_right}
+use Rattle.std.proofs.lemmas.List.Elements.{All-append, All-contains, All-head, All-map, All-tail, Contains-append_left, Contains-append_right}
 use Rattle.std.proofs.lemmas.List.Sorted.{All-permutation, Contains-permutation}
 use Rattle.std.proofs.lemmas.Slice.Eq.{bytes_eq-Decides}
 use Rattle.std.specs.FinMap as finite
 use Rattle.std.specs.List.{AllByRecursion, AllZip, IsDistinct, concat}
-use Rattle.std.specs.List.Sorted.{IsPermutation, IsStrictlySortedBy}
+use Rattle.std.specs.List.Sorted.{IsStrictlySortedBy}
 use Rattle.std.specs.declared.cmp.Ordering.TheVariants.{Less}
-use Rattle.csv.specs.Writing.{default_writer, row_text}
 use Rattle.par_model.specs.Key.{encoded}
 use Rattle.par_model.specs.Named.{NamedPlan}
 use Rattle.par_model.specs.Plan.{Plan}
@@ -26,7 +25,7 @@ use Rattle.result_text.proofs.KeyColumns.{columns_in-encoded, same_encoding}
 use Rattle.result_text.proofs.Ranges.{shown-all}
 use Rattle.result_text.proofs.Tables.{table_text-append, table_text-cons}
 use Rattle.state_head.specs.Words.{Keys}
-use Rattle.state_order.specs.Ranges.{AreWithin, is_before, is_below, is_from, is_open, is_within}
+use Rattle.state_order.specs.Ranges.{is_before, is_below, is_from, is_open, is_within}
 use Rattle.state_range.specs.Ranges.{IsTextWithin, RiseFrom, header_before, ranges_from}
 use Rattle.state_tables.specs.Texts.{RangesAreText}
 use Rattle.state_tables.proofs.Order.{and_of, below_before, below_of, both, from_earlier, from_not, from_of, is_less, less_through, not_itself, rising_append}
