@@ -1,0 +1,11 @@
+//! The law by which the texts of ranges of keys, one after another, are the text of the table of all groups.
+
+#![tactic(auto)]
+
+ghost use Rattle.state_tables.specs.Texts.{RangesAreText};
+
+/// The texts of the ranges between some keys, which rise, are one after another the text of all groups of a map. A law: it does nothing
+/// when it runs.
+pub fn ranges_are_text()
+    ensures { RangesAreText }
+{}
