@@ -8,11 +8,15 @@ ghost use Rattle.state_query.specs.Whys.{IsReadStop};
 ghost use Rattle.state_query.specs.declared.stop.Stop.TheVariants as stop;
 ghost use Rattle.state_source.specs.Reading.{OfLeft};
 
-use crate::input::{Loaded, first_of, load};
+use crate::input::{Loaded, Opened, first_of, load, load_within, open};
 use crate::stop::Stop;
 use par_io::Source;
 use state_combine::push_combined;
-use state_finalize::{Finished, finish};
+use state_finalize::{FinishFault, Finished, finish};
+use state_head::KeyRange;
+use state_plan::FilePlan;
+use state_source::{FirstBytes, sum_ranges};
+use state_tables::finish_ranges;
 use std::alloc::Global;
 use std::thread::Threads;
 
@@ -49,14 +53,35 @@ pub(crate) fn table_pieces<R: Threads + Sync, S: Source>(
     ensures read_fault { IfErr result (λ why. why ≡ stop.ReadFault → Rose (S.faults source.old) (S.faults source.new)) }
 {
     let first = first_of(alloc, source)?;
-    let loaded = load(alloc, &first, source)?;
+    let opened = open(alloc, &first)?;
+    if threads < 2 || opened.plan.bound.group_columns().is_empty() {
+        return pieces_of_all(rt, alloc, threads, &first, opened, source);
+    }
+    pieces_of_ranges(rt, alloc, threads, &first, opened, source)
+}
+
+/// The text by one map of all groups.
+fn pieces_of_all<'a, R: Threads + Sync, S: Source>(
+    rt: &R,
+    alloc: Global,
+    threads: usize,
+    first: &'a FirstBytes,
+    opened: Opened<'a>,
+    source: &mut S,
+) -> Result<Vec<Vec<u8>>, Stop>
+{
+    let within = KeyRange {
+        low: b"",
+        high: b"",
+    };
+    let loaded = load_within(alloc, first, opened, source, within)?;
     let Loaded {
         whole,
         plan,
         sum,
         ..
     } = loaded;
-    match finish(
+    let finished = finish(
         rt,
         alloc,
         &plan.plan,
@@ -64,7 +89,54 @@ pub(crate) fn table_pieces<R: Threads + Sync, S: Source>(
         whole.sources,
         sum,
         threads,
+    );
+    pieces_of(alloc, &plan, finished)
+}
+
+/// The text by maps of ranges of keys, in threads.
+fn pieces_of_ranges<'a, R: Threads + Sync, S: Source>(
+    rt: &R,
+    alloc: Global,
+    threads: usize,
+    first: &'a FirstBytes,
+    opened: Opened<'a>,
+    source: &mut S,
+) -> Result<Vec<Vec<u8>>, Stop>
+{
+    let Opened { whole, range, plan } = opened;
+    let sums = match sum_ranges(
+        rt,
+        alloc,
+        first,
+        source,
+        whole,
+        range,
+        &plan.shape(),
+        threads,
     ) {
+        Ok(sums) => sums,
+        Err(why) => return Err(Stop::of_source(why)),
+    };
+    let finished = finish_ranges(
+        rt,
+        alloc,
+        &plan.plan,
+        &plan.bound,
+        whole.sources,
+        sums,
+        threads,
+    );
+    pieces_of(alloc, &plan, finished)
+}
+
+/// The pieces of what files come to, or why there are none.
+fn pieces_of(
+    alloc: Global,
+    plan: &FilePlan,
+    finished: Result<Finished, FinishFault>,
+) -> Result<Vec<Vec<u8>>, Stop>
+{
+    match finished {
         Ok(Finished::Table(pieces)) => Ok(pieces),
         Ok(Finished::Refused(row)) => Err(Stop::of_row(alloc, &plan.plan, row)),
         Err(why) => Err(Stop::of_finish(why)),

@@ -4,6 +4,8 @@
 
 mod cuts;
 mod maps;
+mod sums;
 
 pub use cuts::cuts_of;
 pub use maps::{RangeMap, keep_in_threads, ranges_between};
+pub use sums::RangeSums;

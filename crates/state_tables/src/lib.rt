@@ -2,7 +2,11 @@
 
 #![tactic(auto)]
 
+mod finishing;
+
 ghost use Rattle.state_tables.specs.Texts.{RangesAreText};
+
+pub use finishing::finish_ranges;
 
 /// The texts of the ranges between some keys, which rise, are one after another the text of all groups of a map. A law: it does nothing
 /// when it runs.

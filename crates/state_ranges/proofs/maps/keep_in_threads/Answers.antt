@@ -4,7 +4,7 @@ use Rattle.state_keep.specs.declared.keep.KeepFault.{KeepFault}
 use Rattle.state_keep.specs.declared.keep.KeepFault.TheVariants as fault
 use Rattle.state_ranges.specs.Parts.{AreRangesOf, HasFault, IsFilled}
 use Rattle.state_ranges.specs.declared.maps.RangeMap.{RangeMap}
-use Rattle.state_ranges.proofs.Done.{all_done, one_lacks, same_kept}
+use Rattle.state_ranges.proofs.Done.{all_done, one_lacks, same_ends}
 use Rattle.state_ranges.proofs.maps.keep_in_threads.Goals as goal
 use Rattle.state_whole.specs.Adding.{sum_with}
 
@@ -24,4 +24,4 @@ returns-clause-kept g c = λ m bs was all rise e.
     (λ filled. all_done shape shape.columns c.args.blocks.now m bs olds news c.fill_each.ensures was all rise e filled) (λ why has. one_lacks shape shape.columns c.args.blocks.now m bs olds news why c.fill_each.ensures was all rise e has)
 
 pub returns-clause-same : goal.returns-clause-same
-returns-clause-same g c = same_kept c.args.shape.now c.args.blocks.now c.args.ranges.now.items c.fill_each.new.ranges.items c.fill_each.ensures
+returns-clause-same g c = same_ends c.args.shape.now c.args.blocks.now c.args.ranges.now.items c.fill_each.new.ranges.items c.fill_each.ensures

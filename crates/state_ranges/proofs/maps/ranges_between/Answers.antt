@@ -2,8 +2,8 @@ use Rattle.std.proofs.Common.{◌≡◌, ◌+◌, ◌++◌, ◌∙◌, ℕ, List
 use Rattle.std.specs.Global.{Vec}
 use Rattle.state_head.specs.Words.{Keys}
 use Rattle.state_range.specs.Ranges.{ranges_from}
-use Rattle.state_ranges.specs.Parts.{bytes_of}
-use Rattle.state_ranges.proofs.Placing.{ends_of, put_ends, put_none}
+use Rattle.state_ranges.specs.Parts.{bytes_of, ends_of}
+use Rattle.state_ranges.proofs.Placing.{put_ends, put_none}
 use Rattle.state_ranges.proofs.Rising.{next_range}
 use Rattle.state_ranges.proofs.maps.ranges_between.Goals as goal
 

@@ -1,0 +1,119 @@
+//! The end of a query in parts, the text of each range made by a thread.
+
+ghost use Rattle.std.specs.Prelude.{◌≡◌, ◌<◌, All, IfErr, IfOk, List, length};
+ghost use Rattle.partial_agg.specs.Groups.{GroupsByKey};
+ghost use Rattle.partial_agg.specs.Listed.{listed};
+ghost use Rattle.result_text.specs.Printable.{IsBoundFrom, IsKeyOf};
+ghost use Rattle.state_finalize.specs.Finished.{IsFinished, IsNotFinished};
+ghost use Rattle.state_head.specs.Cover.{IsStretch};
+ghost use Rattle.state_head.specs.declared.cover.Stretch.{Stretch};
+ghost use Rattle.state_ranges.specs.Sums.{AreRangeSums};
+
+use par_model::BoundPlan;
+use partial_agg::GroupMap;
+use plan_spec::Plan;
+use state_finalize::{FinishFault, Finished, finish_range};
+use state_head::{KeyRange, Stretch};
+use state_ranges::{RangeMap, RangeSums};
+use state_whole::{Kept, Sum};
+use std::alloc::{AllocError, Global};
+use std::mem;
+use std::thread::{Threads, for_each_mut};
+
+/// The map of a range, and then what it comes to.
+#[derive(Drop)]
+struct Job {
+    range: RangeMap,
+    done: Result<Finished, FinishFault>,
+}
+
+/// What the sum of all files comes to, if they say this of themselves. The ranges are shared out to at most this many threads, the
+/// caller's among them, each with the cover of its own. Memory is that of the text, and for each range at work 24 bytes a group.
+pub fn finish_ranges<R: Threads + Sync>(
+    rt: &R,
+    alloc: Global,
+    plan: &Plan,
+    bound: &BoundPlan,
+    sources: u32,
+    sums: RangeSums,
+    threads: usize,
+) -> Result<Finished, FinishFault>
+    requires some { 0 < threads }
+    requires bound { IsBoundFrom plan.now.plan bound.now }
+    requires groups { length bound.now.groups ≡ 0 → ⊥ }
+    requires sums { (m : GroupsByKey) × (cover : List Stretch) × AreRangeSums (length bound.now.groups) m cover sums.entry × All (λ group. IsKeyOf (length bound.now.groups) group.key) (listed m) × All (IsStretch sources) cover }
+    ensures finished { (m : GroupsByKey) (cover : List Stretch) → AreRangeSums (length bound.now.groups) m cover sums.entry → All (λ group. IsKeyOf (length bound.now.groups) group.key) (listed m)
+        → IfOk result (IsFinished plan.now.plan bound.now sources m cover) }
+
+    // When each error comes.
+    ensures refused { (m : GroupsByKey) (cover : List Stretch) → AreRangeSums (length bound.now.groups) m cover sums.entry → IfErr result (IsNotFinished sources m cover) }
+{
+    let RangeSums { ranges, cover } = sums;
+    let Ok(mut jobs) = jobs_of(alloc, ranges) else {
+        return Err(FinishFault::Memory);
+    };
+    let cover = cover.as_slice();
+    for_each_mut(
+        rt,
+        jobs.as_mut_slice(),
+        threads,
+        &|_, job| { finish_job(alloc, plan, bound, sources, cover, job) },
+    );
+    all_of(alloc, jobs)
+}
+
+/// A job for each range.
+fn jobs_of(alloc: Global, ranges: Vec<RangeMap>) -> Result<Vec<Job>, AllocError>
+{
+    let mut jobs = Vec::with_capacity(alloc, ranges.len())?;
+    for range in ranges {
+        jobs.push(Job {
+            range,
+            done: Err(FinishFault::Memory),
+        })?;
+    }
+    Ok(jobs)
+}
+
+/// Makes what a range comes to, whose map is empty afterwards.
+fn finish_job(
+    alloc: Global,
+    plan: &Plan,
+    bound: &BoundPlan,
+    sources: u32,
+    cover: &[Stretch],
+    job: &mut Job,
+)
+{
+    let Ok(cover) = Vec::from_slice(alloc, cover) else {
+        return;
+    };
+    let map = mem::replace(&mut job.range.map, GroupMap::new(alloc));
+    let range = KeyRange {
+        low: job.range.low.as_slice(),
+        high: job.range.high.as_slice(),
+    };
+    let columns = job.range.columns;
+    let mut sum = Sum::new(alloc, Kept { columns, range });
+    sum.map = map;
+    sum.cover = cover;
+    job.done = finish_range(alloc, plan, bound, sources, sum);
+}
+
+/// The texts of all ranges, in pieces one after another; or the first refused row, or the first fault.
+fn all_of(alloc: Global, jobs: Vec<Job>) -> Result<Finished, FinishFault>
+{
+    let mut all = Vec::new(alloc);
+    for job in jobs {
+        match job.done {
+            Ok(Finished::Table(mut pieces)) => {
+                if all.append(&mut pieces).is_err() {
+                    return Err(FinishFault::Memory);
+                }
+            }
+            Ok(Finished::Refused(row)) => return Ok(Finished::Refused(row)),
+            Err(why) => return Err(why),
+        }
+    }
+    Ok(Finished::Table(all))
+}
