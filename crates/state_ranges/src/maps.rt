@@ -44,10 +44,12 @@ pub fn ranges_between(
     let mut low: &[u8] = b"";
     for at in 0..cuts.len() {
         let high = cuts[at].as_slice();
-        ranges.push(range_between(alloc, columns, low, high)?)?;
+        let next = range_between(alloc, columns, low, high)?;
+        ranges.push(next)?;
         low = high;
     }
-    ranges.push(range_between(alloc, columns, low, b"")?)?;
+    let last = range_between(alloc, columns, low, b"")?;
+    ranges.push(last)?;
     Ok(ranges)
 }
 

@@ -57,7 +57,7 @@ impl RangeSums {
     ) -> Result<RangeSums, KeepFault>
         requires some { 0 < threads }
         requires shape { IsShape shape.now }
-        ensures { (m : GroupsByKey) (before : List Stretch) (bs : List (List Group)) → AreRangeSums shape.now.columns m before self.entry → All (IsBlock shape.now.columns shape.now.kinds.now) bs
+        ensures { (m : GroupsByKey) (before : List Stretch) (bs : List (List Group)) → AreRangeSums shape.now.columns m before self → All (IsBlock shape.now.columns shape.now.kinds.now) bs
             → Rise shape.now.columns (map_list key_of (groups_of bs)) → blocks.now ≡ blocks_bytes shape.now.kinds.now bs
             → MatchResult result (AreRangeSums shape.now.columns (sum_with shape.now m (groups_of bs)) (before ++ cover.now)) (λ why. why ≡ fault.Memory) }
     {

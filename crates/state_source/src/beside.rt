@@ -3,18 +3,22 @@
 //! All that can be wrong with a file is found by the look, so only memory can be lacking when it is added. A file's blocks are copied when it
 //! was looked at, and its bytes are dropped, so that more can be read before it is added.
 
-ghost use Rattle.std.specs.Prelude.{◌≡◌, ◌<◌, ◌≤◌, ◌++◌, [], List, ℕ, IfErr, IfOk, IfSome, length};
+ghost use Rattle.std.specs.Prelude.{◌≡◌, ◌<◌, ◌≤◌, ◌++◌, [], List, ℕ, IfErr, IfOk, IfSome, OnOk, length};
 ghost use Rattle.std.specs.FinMap as finite;
 ghost use Rattle.std.specs.Thread.{IsSync};
 ghost use Rattle.par_io.specs.Faults.{Rose};
 ghost use Rattle.partial_agg.specs.Groups.{GroupsByKey};
-ghost use Rattle.state_head.specs.Head.{subject_of};
-ghost use Rattle.state_head.specs.Words.{keys_of};
+ghost use Rattle.state_head.specs.Head.{Subject, subject_of};
+ghost use Rattle.state_head.specs.Words.{Keys, keys_of};
+ghost use Rattle.state_head.specs.declared.cover.Stretch.{Stretch};
+ghost use Rattle.state_load.specs.Loading.{IsLookedAt};
+ghost use Rattle.state_ranges.specs.Sums.{AreRangeSums};
 ghost use Rattle.state_source.specs.Adding.{IsFaultOf};
-ghost use Rattle.state_source.specs.Beside.{AreInRanges, ComesOn, IsGone, IsSeen, IsSeenStep};
-ghost use Rattle.state_source.specs.Reading.{EndsAt, OfLeft, ReadsOn};
+ghost use Rattle.state_source.specs.Beside.{AreInRanges, ComesOn, IsSeenIn, IsSeenOf};
+ghost use Rattle.state_source.specs.Reading.{EndsAt, IsNoLoad, OfLeft, ReadsOn};
 ghost use Rattle.state_source.specs.declared.adding.SourceFault.TheVariants as fault;
-ghost use Rattle.state_whole.specs.Adding.{IsShape};
+ghost use Rattle.state_whole.specs.Adding.{IsShape, sum_with};
+ghost use Rattle.state_whole.specs.Files.{StateFile, file_bytes, tuples_in};
 
 use crate::adding::{SourceFault, shifted};
 use crate::ahead::{Ahead, PIECE};
@@ -22,6 +26,7 @@ use crate::first::FirstBytes;
 use crate::sizes::wanted_size;
 use par_io::Source;
 use state_head::{KeyRange, Stretch, Whole};
+use state_keep::KeepFault;
 use state_load::{LoadCause, LoadFault, LookedAt, add_files, look_first};
 use state_ranges::RangeSums;
 use state_whole::{Kept, Shape, Sum};
@@ -109,6 +114,15 @@ fn add_all<R: Threads + Sync, S: Source>(
     query: Query<'_>,
     shape: &Shape<'_>,
 ) -> Result<RangeSums, SourceFault>
+    requires some { 1 < query.threads }
+    requires shape { IsShape shape.now }
+    requires end { EndsAt ahead.old.ended (S.left source.old) }
+    ensures added { (f : StateFile) → AreRangeSums shape.now.columns finite.empty [] sums → IsSeenOf shape.now (subject_of query.entry.whole) (keys_of query.entry.range) f file
+        → IfOk result (λ all. OfLeft (S.left source.old) (λ more. AreInRanges shape.now (subject_of query.entry.whole) (keys_of query.entry.range) (file_bytes shape.now.kinds.now f ++ (ahead.old.bytes ++ more)) all)) }
+    ensures refused { (f : StateFile) → AreRangeSums shape.now.columns finite.empty [] sums → IsSeenOf shape.now (subject_of query.entry.whole) (keys_of query.entry.range) f file
+        → IfErr result (λ why. OfLeft (S.left source.old) (λ more. IsFaultOf shape.now (subject_of query.entry.whole) (keys_of query.entry.range) finite.empty (file_bytes shape.now.kinds.now f ++ (ahead.old.bytes ++ more)) why)) }
+    ensures faults { S.faults source.old ≤ S.faults source.new }
+    ensures read_fault { IfErr result (λ why. why ≡ fault.ReadFault → Rose (S.faults source.old) (S.faults source.new)) }
 {
     let mut sums = sums;
     let mut file = file;
@@ -141,6 +155,16 @@ fn add_one<R: Threads + Sync, S: Source>(
     query: Query<'_>,
     shape: &Shape<'_>,
 ) -> Result<(RangeSums, Option<Seen>), SourceFault>
+    requires some { 1 < query.threads }
+    requires shape { IsShape shape.now }
+    requires end { EndsAt ahead.old.ended (S.left source.old) }
+    ensures sum { (m : GroupsByKey) (cover : List Stretch) (f : StateFile) → AreRangeSums shape.now.columns m cover sums → IsSeenOf shape.now (subject_of query.entry.whole) (keys_of query.entry.range) f file
+        → IfOk result (λ two. AreRangeSums shape.now.columns (sum_with shape.now m (tuples_in f)) (cover ++ f.preface.cover) two.0) }
+    ensures next { IfOk result (λ two. ComesOn shape.now (subject_of query.entry.whole) (keys_of query.entry.range) (S.left source.old) (S.left source.new) ahead.old ahead.new two.1) }
+    ensures end { IfOk result (λ _. EndsAt ahead.new.ended (S.left source.new)) }
+    ensures refused { (m : GroupsByKey) → IfErr result (λ why. OfLeft (S.left source.old) (λ more. IsFaultOf shape.now (subject_of query.entry.whole) (keys_of query.entry.range) m (ahead.old.bytes ++ more) why)) }
+    ensures faults { S.faults source.old ≤ S.faults source.new }
+    ensures read_fault { IfErr result (λ why. why ≡ fault.ReadFault → Rose (S.faults source.old) (S.faults source.new)) }
 {
     hold_next(ahead, source)?;
     let (sums, next) = add_beside(rt, alloc, sums, &file, ahead.bytes(), query, shape)?;
@@ -167,10 +191,17 @@ fn add_beside<R: Threads + Sync>(
     query: Query<'_>,
     shape: &Shape<'_>,
 ) -> Result<(RangeSums, Option<Seen>), SourceFault>
+    requires some { 1 < query.threads }
+    requires shape { IsShape shape.now }
+    ensures sum { (m : GroupsByKey) (cover : List Stretch) (f : StateFile) → AreRangeSums shape.now.columns m cover sums → IsSeenOf shape.now (subject_of query.entry.whole) (keys_of query.entry.range) f file.now
+        → IfOk result (λ two. AreRangeSums shape.now.columns (sum_with shape.now m (tuples_in f)) (cover ++ f.preface.cover) two.0) }
+    ensures seen { IfOk result (λ two. IfSome two.1 (IsSeenIn shape.now (subject_of query.entry.whole) (keys_of query.entry.range) bytes.now)) }
+    ensures refused { (m : GroupsByKey) (more : List ℕ) → IfErr result (IsFaultOf shape.now (subject_of query.entry.whole) (keys_of query.entry.range) m (bytes.now ++ more)) }
+    ensures why { IfErr result (λ why. (why ≡ fault.ReadFault) → ⊥) }
 {
     let (sums, next) = join(
         rt,
-        || sums.with_file(rt, file.blocks.as_slice(), file.cover.as_slice(), shape, query.threads - 1),
+        || add_seen(rt, sums, file, shape, query.threads - 1),
         || see(alloc, bytes, query, shape),
     );
     let next = next?;
@@ -180,8 +211,30 @@ fn add_beside<R: Threads + Sync>(
     }
 }
 
+/// Adds a file that was looked at.
+fn add_seen<R: Threads + Sync>(
+    rt: &R,
+    sums: RangeSums,
+    file: &Seen,
+    shape: &Shape<'_>,
+    threads: usize,
+) -> Result<RangeSums, KeepFault>
+    requires some { 0 < threads }
+    requires shape { IsShape shape.now }
+    ensures { (subject : Subject) (keys : Keys) (m : GroupsByKey) (cover : List Stretch) (f : StateFile) → AreRangeSums shape.now.columns m cover sums → IsSeenOf shape.now subject keys f file.now
+        → IfOk result (AreRangeSums shape.now.columns (sum_with shape.now m (tuples_in f)) (cover ++ f.preface.cover)) }
+{
+    sums.with_file(rt, file.blocks.as_slice(), file.cover.as_slice(), shape, threads)
+}
+
 /// Reads on until the next file may be there.
 fn hold_next<S: Source>(ahead: &mut Ahead, source: &mut S) -> Result<(), SourceFault>
+    requires { EndsAt ahead.old.ended (S.left source.old) }
+    ensures reads { IfOk result (λ _. ReadsOn (S.left source.old) (S.left source.new) ahead.old.bytes ahead.new.bytes) }
+    ensures end { IfOk result (λ _. EndsAt ahead.new.ended (S.left source.new)) }
+    ensures why { IfErr result IsNoLoad }
+    ensures faults { S.faults source.old ≤ S.faults source.new }
+    ensures read_fault { IfErr result (λ why. why ≡ fault.ReadFault → Rose (S.faults source.old) (S.faults source.new)) }
 {
     for _ in 0..u64::MAX {
         match wanted_size(ahead.bytes(), ahead.ended()) {
@@ -200,6 +253,13 @@ fn see_next<S: Source>(
     query: Query<'_>,
     shape: &Shape<'_>,
 ) -> Result<Option<Seen>, SourceFault>
+    requires shape { IsShape shape.now }
+    requires end { EndsAt ahead.old.ended (S.left source.old) }
+    ensures next { IfOk result (ComesOn shape.now (subject_of query.entry.whole) (keys_of query.entry.range) (S.left source.old) (S.left source.new) ahead.old ahead.new) }
+    ensures end { IfOk result (λ _. EndsAt ahead.new.ended (S.left source.new)) }
+    ensures refused { (m : GroupsByKey) → IfErr result (λ why. OfLeft (S.left source.old) (λ more. IsFaultOf shape.now (subject_of query.entry.whole) (keys_of query.entry.range) m (ahead.old.bytes ++ more) why)) }
+    ensures faults { S.faults source.old ≤ S.faults source.new }
+    ensures read_fault { IfErr result (λ why. why ≡ fault.ReadFault → Rose (S.faults source.old) (S.faults source.new)) }
 {
     for _ in 0..u64::MAX {
         hold_next(ahead, source)?;
@@ -226,6 +286,10 @@ fn see(
     query: Query<'_>,
     shape: &Shape<'_>,
 ) -> Result<Option<Seen>, SourceFault>
+    requires { IsShape shape.now }
+    ensures seen { IfOk result (λ found. IfSome found (IsSeenIn shape.now (subject_of query.entry.whole) (keys_of query.entry.range) bytes.now)) }
+    ensures refused { (m : GroupsByKey) (more : List ℕ) → IfErr result (IsFaultOf shape.now (subject_of query.entry.whole) (keys_of query.entry.range) m (bytes.now ++ more)) }
+    ensures why { IfErr result (λ why. (why ≡ fault.ReadFault) → ⊥) }
 {
     let at = match look_first(alloc, bytes, query.whole, query.range, shape) {
         Ok(Some(at)) => at,
@@ -244,6 +308,9 @@ fn see(
 
 /// What is kept of a file that was looked at.
 fn kept_of(alloc: Global, at: LookedAt<'_>, size: usize) -> Result<Seen, AllocError>
+    ensures blocks { IfOk result (λ seen. seen.blocks.items ≡ at.entry.blocks.now) }
+    ensures cover { IfOk result (λ seen. seen.cover.items ≡ at.entry.front.head.cover.items) }
+    ensures size { IfOk result (λ seen. seen.size ≡ size) }
 {
     let blocks = Vec::from_slice(alloc, at.blocks)?;
     let cover = at.front.head.cover;
@@ -261,6 +328,10 @@ fn none_left(
     query: Query<'_>,
     shape: &Shape<'_>,
 ) -> Result<(), SourceFault>
+    requires { IsShape shape.now }
+    ensures none { OnOk result (bytes.now ≡ []) }
+    ensures refused { (m : GroupsByKey) → IfErr result (IsFaultOf shape.now (subject_of query.entry.whole) (keys_of query.entry.range) m bytes.now) }
+    ensures why { IfErr result (λ why. (why ≡ fault.ReadFault) → ⊥) }
 {
     let range = KeyRange {
         low: NOWHERE,

@@ -41,12 +41,12 @@ pub fn finish_ranges<R: Threads + Sync>(
     requires some { 0 < threads }
     requires bound { IsBoundFrom plan.now.plan bound.now }
     requires groups { length bound.now.groups ≡ 0 → ⊥ }
-    requires sums { (m : GroupsByKey) × (cover : List Stretch) × AreRangeSums (length bound.now.groups) m cover sums.entry × All (λ group. IsKeyOf (length bound.now.groups) group.key) (listed m) × All (IsStretch sources) cover }
-    ensures finished { (m : GroupsByKey) (cover : List Stretch) → AreRangeSums (length bound.now.groups) m cover sums.entry → All (λ group. IsKeyOf (length bound.now.groups) group.key) (listed m)
+    requires sums { (m : GroupsByKey) × (cover : List Stretch) × AreRangeSums (length bound.now.groups) m cover sums × All (λ group. IsKeyOf (length bound.now.groups) group.key) (listed m) × All (IsStretch sources) cover }
+    ensures finished { (m : GroupsByKey) (cover : List Stretch) → AreRangeSums (length bound.now.groups) m cover sums → All (λ group. IsKeyOf (length bound.now.groups) group.key) (listed m)
         → IfOk result (IsFinished plan.now.plan bound.now sources m cover) }
 
     // When each error comes.
-    ensures refused { (m : GroupsByKey) (cover : List Stretch) → AreRangeSums (length bound.now.groups) m cover sums.entry → IfErr result (IsNotFinished sources m cover) }
+    ensures refused { (m : GroupsByKey) (cover : List Stretch) → AreRangeSums (length bound.now.groups) m cover sums → IfErr result (IsNotFinished sources m cover) }
 {
     let RangeSums { ranges, cover } = sums;
     let Ok(mut jobs) = jobs_of(alloc, ranges) else {

@@ -15,12 +15,12 @@ loop-at-preserved c =
     let news = c.push.new.self.items in
     let low = c.loop-at.low.now in
     let high = c.as_slice-high.result.now in
-    let put = put_ends olds news c.range_between.result low high c.in_ok-push.ensures.items c.range_between.ensures.low c.range_between.ensures.high in
+    let put = put_ends olds news c.in_ok-next.next low high c.in_ok-push.ensures.items c.in_ok-next.ensures.low c.in_ok-next.ensures.high in
     let is : high ≡ c.index-cuts-at.result.items = c.as_slice-high.ensures.value in
     let here = next_range (map ends_of olds) all low high cuts c.loop-at.at c.index-cuts-at.result c.loop-at-test.true (is ∙ ap (λ (v : Vec ℕ). v.items) c.index-cuts-at.is) c.loop-at.invariant.0 in (
       ap (λ (ks : List Keys). ks ++ ranges_from high (map bytes_of (drop (c.loop-at.at + 1) cuts))) put ∙ here,
-      put_none c.args.columns olds news c.range_between.result c.in_ok-push.ensures.items c.range_between.ensures.columns c.range_between.ensures.none c.loop-at.invariant.1,
+      put_none c.args.columns olds news c.in_ok-next.next c.in_ok-push.ensures.items c.in_ok-next.ensures.columns c.in_ok-next.ensures.none c.loop-at.invariant.1,
     )
 
 pub returns-clause-none : goal.returns-clause-none
-returns-clause-none c = put_none c.args.columns c.loop-at.ranges.items c.push-2.new.self.items c.range_between-2.result c.in_ok-push-2.ensures.items c.range_between-2.ensures.columns c.range_between-2.ensures.none c.loop-at.invariant.1
+returns-clause-none c = put_none c.args.columns c.loop-at.ranges.items c.push-2.new.self.items c.in_ok-last.last c.in_ok-push-2.ensures.items c.in_ok-last.ensures.columns c.in_ok-last.ensures.none c.loop-at.invariant.1
