@@ -1,2 +1,3 @@
 mod Adds
+mod Beside
 pub mod Rests

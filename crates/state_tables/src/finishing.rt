@@ -1,13 +1,15 @@
 //! The end of a query in parts, the text of each range made by a thread.
 
-ghost use Rattle.std.specs.Prelude.{◌≡◌, ◌<◌, All, IfErr, IfOk, List, length};
+ghost use Rattle.std.specs.Prelude.{◌≡◌, ◌<◌, ◌⊎◌, All, Err, IfErr, IfOk, List, length, map as map_list};
 ghost use Rattle.partial_agg.specs.Groups.{GroupsByKey};
 ghost use Rattle.partial_agg.specs.Listed.{listed};
 ghost use Rattle.result_text.specs.Printable.{IsBoundFrom, IsKeyOf};
 ghost use Rattle.state_finalize.specs.Finished.{IsFinished, IsNotFinished};
+ghost use Rattle.state_finalize.specs.declared.finishing.FinishFault.TheVariants as fault;
 ghost use Rattle.state_head.specs.Cover.{IsStretch};
 ghost use Rattle.state_head.specs.declared.cover.Stretch.{Stretch};
 ghost use Rattle.state_ranges.specs.Sums.{AreRangeSums};
+ghost use Rattle.state_tables.specs.Jobs.{AreAll, AreDone, HasJob, IsDone};
 
 use par_model::BoundPlan;
 use partial_agg::GroupMap;
@@ -52,18 +54,38 @@ pub fn finish_ranges<R: Threads + Sync>(
     let Ok(mut jobs) = jobs_of(alloc, ranges) else {
         return Err(FinishFault::Memory);
     };
-    let cover = cover.as_slice();
+    finish_each(rt, alloc, plan, bound, sources, cover.as_slice(), &mut jobs, threads);
+    all_of(alloc, jobs)
+}
+
+/// Makes what each range comes to.
+fn finish_each<R: Threads + Sync>(
+    rt: &R,
+    alloc: Global,
+    plan: &Plan,
+    bound: &BoundPlan,
+    sources: u32,
+    cover: &[Stretch],
+    jobs: &mut Vec<Job>,
+    threads: usize,
+)
+    requires some { 0 < threads }
+    requires bound { IsBoundFrom plan.now.plan bound.now }
+    requires jobs { All (λ job. (job.range.columns ≡ length bound.now.groups) × All (λ group. IsKeyOf (length bound.now.groups) group.key) (listed job.range.map)) jobs.old.items }
+    requires stretches { All (IsStretch sources) cover.now }
+    ensures { AreDone plan.now.plan bound.now sources cover.now jobs.old.items jobs.new.items }
+{
     for_each_mut(
         rt,
         jobs.as_mut_slice(),
         threads,
         &|_, job| { finish_job(alloc, plan, bound, sources, cover, job) },
     );
-    all_of(alloc, jobs)
 }
 
 /// A job for each range.
 fn jobs_of(alloc: Global, ranges: Vec<RangeMap>) -> Result<Vec<Job>, AllocError>
+    ensures { IfOk result (λ jobs. map_list (λ job. job.range) jobs.items ≡ ranges.items) }
 {
     let mut jobs = Vec::with_capacity(alloc, ranges.len())?;
     for range in ranges {
@@ -84,8 +106,14 @@ fn finish_job(
     cover: &[Stretch],
     job: &mut Job,
 )
+    requires bound { IsBoundFrom plan.now.plan bound.now }
+    requires columns { job.old.range.columns ≡ length bound.now.groups }
+    requires keys { All (λ group. IsKeyOf (length bound.now.groups) group.key) (listed job.old.range.map) }
+    requires stretches { All (IsStretch sources) cover.now }
+    ensures { IsDone plan.now.plan bound.now sources cover.now job.old job.new }
 {
     let Ok(cover) = Vec::from_slice(alloc, cover) else {
+        job.done = Err(FinishFault::Memory);
         return;
     };
     let map = mem::replace(&mut job.range.map, GroupMap::new(alloc));
@@ -102,6 +130,8 @@ fn finish_job(
 
 /// The texts of all ranges, in pieces one after another; or the first refused row, or the first fault.
 fn all_of(alloc: Global, jobs: Vec<Job>) -> Result<Finished, FinishFault>
+    ensures all { IfOk result (AreAll jobs.items) }
+    ensures fault { IfErr result (λ why. (why ≡ fault.Memory) ⊎ HasJob jobs.items (Err why)) }
 {
     let mut all = Vec::new(alloc);
     for job in jobs {
