@@ -1,5 +1,5 @@
 -- Ranges of which each has taken the groups of a file.
-use Rattle.std.proofs.Common.{◌≡◌, ◌<◌, ◌∙◌, Err, Ok, ℕ, List, [], ◌∷◌, All, MatchResult, Result, ap, arith, length, map, refl, slice_index_or, subst, suc, sym}
+use Rattle.std.proofs.Common.{◌≡◌, ◌<◌, ◌∙◌, Err, Ok, ℕ, List, [], ◌∷◌, All, MatchResult, Result, arith, length, map, refl, slice_index_or, subst, suc, sym}
 use Rattle.partial_agg.specs.Groups.{GroupsByKey}
 use Rattle.state_blocks.specs.Blocks.{Group, IsBlock, blocks_bytes}
 use Rattle.state_body.specs.Body.{groups_of}

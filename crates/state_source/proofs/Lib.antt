@@ -1,3 +1,4 @@
 mod Adds
 mod Beside
+mod Nowhere
 pub mod Rests

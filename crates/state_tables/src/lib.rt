@@ -1,4 +1,5 @@
-//! The law by which the texts of ranges of keys, one after another, are the text of the table of all groups.
+//! The table of all groups by ranges of keys: the text of each range made by a thread, and the law by which those texts, one after another,
+//! are the text of all groups.
 
 #![tactic(auto)]
 
