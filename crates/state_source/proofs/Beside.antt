@@ -1,5 +1,5 @@
 -- Files that were added to ranges, the one that was looked at after them, and what is left.
-use Rattle.std.proofs.Common.{◌≡◌, ◌≤◌, ◌+◌, ◌++◌, ◌∙◌, inl, inr, ℕ, List, [], ◌∷◌, None, Option, Some, ap, append_assoc, append-nil, arith, drop, length, length-append, refl, subst, sym}
+use Rattle.std.proofs.Common.{◌≡◌, ◌≤◌, ◌+◌, ◌++◌, ◌∙◌, inl, inr, Err, IfOk, MatchResult, Ok, Result, ℕ, All, List, [], ◌∷◌, None, Option, Some, ap, append_assoc, append-nil, arith, drop, length, length-append, map, refl, subst, sym}
 use Rattle.std.proofs.KnownBytes.{Consumes-nil, Consumes-trans}
 use Rattle.std.proofs.lemmas.Grind.{flat_map-append}
 use Rattle.std.proofs.lemmas.List.Elements.{All-append, All-cons, All-nil, All-push}
@@ -7,21 +7,28 @@ use Rattle.std.proofs.lemmas.List.Sums.{fold-append, fold_push}
 use Rattle.std.specs.FinMap as finite
 use Rattle.std.specs.Io.KnownBytes.{Consumes, IsAtEnd}
 use Rattle.partial_agg.specs.Groups.{GroupsByKey}
+use Rattle.state_blocks.specs.Blocks.{Group, IsBlock, blocks_bytes}
+use Rattle.state_body.specs.Body.{groups_of}
 use Rattle.state_head.specs.Head.{Subject}
 use Rattle.state_head.specs.Words.{Keys}
 use Rattle.state_head.specs.declared.cover.Stretch.{Stretch}
+use Rattle.state_keep.specs.declared.keep.KeepFault.{KeepFault}
+use Rattle.state_keep.specs.declared.keep.KeepFault.TheVariants as keep_fault
 use Rattle.state_load.specs.Faults.{IsNoPart}
-use Rattle.state_load.specs.Loading.{AreParts, IsPart, files_bytes, stretches_of, sum_of}
+use Rattle.state_load.specs.declared.look.LookedAt.{LookedAt}
+use Rattle.state_order.specs.Order.{Rise}
+use Rattle.state_load.specs.Loading.{AreParts, IsLookedAt, IsPart, files_bytes, stretches_of, sum_of}
 use Rattle.state_ranges.specs.Sums.{AreRangeSums}
 use Rattle.state_ranges.specs.declared.sums.RangeSums.{RangeSums}
 use Rattle.state_source.specs.Adding.{IsFaultOf, IsShifted}
-use Rattle.state_source.specs.Beside.{AreInRanges, ComesOn, IsSeen, IsSeenOf}
+use Rattle.state_source.specs.Beside.{AreInRanges, ComesOn, IsSeen, IsSeenIn, IsSeenOf}
 use Rattle.state_source.specs.Reading.{Held, OfLeft, ReadsOn}
 use Rattle.state_source.specs.declared.adding.SourceFault.{SourceFault}
 use Rattle.state_source.specs.declared.adding.SourceFault.TheVariants as fault
 use Rattle.state_source.specs.declared.beside.Seen.{Seen}
+use Rattle.state_source.proofs.Adds.{after_skip}
 use Rattle.state_source.proofs.Rests.{of_as, of_end, of_more}
-use Rattle.state_whole.specs.Adding.{sum_with}
+use Rattle.state_whole.specs.Adding.{key_of, sum_with}
 use Rattle.state_whole.specs.Files.{StateFile, file_bytes, tuples_in}
 use Rattle.state_whole.specs.declared.adding.Shape.{Shape}
 
@@ -43,6 +50,32 @@ sums_push : (shape : Shape) (fs : List StateFile) (f : StateFile) (sums : RangeS
 sums_push shape fs f sums is =
     subst (λ (x : GroupsByKey). AreRangeSums shape.columns x (stretches_of (fs ++ f ∷ [])) sums) (sym (sum_push shape finite.empty fs f))
     (subst (λ (ss : List Stretch). AreRangeSums shape.columns (sum_with shape (sum_of shape finite.empty fs) (tuples_in f)) ss sums) (sym (stretches_push fs f)) is)
+
+-- ---- one file
+
+-- what is kept of a file that was looked at
+pub seen_in : (shape : Shape) (subject : Subject) (keys : Keys) (bytes : List ℕ) (at : LookedAt) (seen : Seen) → IsLookedAt shape subject keys bytes at → seen.blocks.items ≡ at.blocks.now → seen.cover.items ≡ at.front.head.cover.items
+    → seen.size + length at.rest.now ≡ length bytes → IsSeenIn shape subject keys bytes seen
+seen_in shape subject keys bytes at seen is blocks cover size =
+    let front = file_bytes shape.kinds.now is.f in (
+      omega (arith, size),
+      record {
+        f = is.f;
+        seen_of = record { is_part = is.is_part; cover_is = cover ∙ is.cover_is; blocks_are = blocks ∙ is.blocks_are };
+        is = is.is ∙ ap (λ (bs : List ℕ). front ++ bs) (after_skip front at.rest.now bytes (drop seen.size bytes) seen.size is.is size refl);
+      },
+    )
+
+-- it is added
+pub seen_added : (shape : Shape) (subject : Subject) (keys : Keys) (m : GroupsByKey) (cover more : List Stretch) (f : StateFile) (seen : Seen) (blocks : List ℕ) (result : Result RangeSums KeepFault) → IsSeenOf shape subject keys f seen
+    → blocks ≡ seen.blocks.items → more ≡ seen.cover.items
+    → ((bs : List (List Group)) → All (IsBlock shape.columns shape.kinds.now) bs → Rise shape.columns (map key_of (groups_of bs)) → blocks ≡ blocks_bytes shape.kinds.now bs
+    → MatchResult result (AreRangeSums shape.columns (sum_with shape m (groups_of bs)) (cover ++ more)) (λ why. why ≡ keep_fault.Memory))
+    → IfOk result (AreRangeSums shape.columns (sum_with shape m (tuples_in f)) (cover ++ f.preface.cover))
+seen_added shape subject keys m cover more f seen blocks (Err why) of same also added = tt
+seen_added shape subject keys m cover more f seen blocks (Ok sums) of same also added =
+    let groups = of.is_part.is_file.are_groups in
+    subst (λ (ss : List Stretch). AreRangeSums shape.columns (sum_with shape m (tuples_in f)) (cover ++ ss) sums) (also ∙ of.cover_is) (added f.blocks groups.is_body.each groups.in_order.rise (same ∙ of.blocks_are))
 
 -- ---- so far
 
