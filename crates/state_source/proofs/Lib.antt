@@ -1,4 +1,4 @@
 mod Adds
-mod Beside
+mod Gone
 mod Nowhere
 pub mod Rests

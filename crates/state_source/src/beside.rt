@@ -127,19 +127,18 @@ fn add_all<R: Threads + Sync, S: Source>(
     let mut sums = sums;
     let mut file = file;
     for count in 1..u64::MAX {
-        match add_one(rt, alloc, sums, file, ahead, source, query, shape) {
-            Ok((now, Some(next))) => {
-                sums = now;
-                file = next;
-            }
-            Ok((now, None)) => {
-                return match none_left(alloc, ahead.bytes(), query, shape) {
-                    Ok(()) => Ok(now),
-                    Err(why) => Err(shifted(count, why)),
-                };
-            }
+        let (now, next) = match add_one(rt, alloc, sums, file, ahead, source, query, shape) {
+            Ok(two) => two,
             Err(why) => return Err(shifted(count, why)),
-        }
+        };
+        let Some(next) = next else {
+            return match none_left(alloc, ahead.bytes(), query, shape) {
+                Ok(()) => Ok(now),
+                Err(why) => Err(shifted(count, why)),
+            };
+        };
+        sums = now;
+        file = next;
     }
     Err(SourceFault::Memory)
 }

@@ -5,7 +5,7 @@ use Rattle.state_head.specs.Words.{keys_of}
 use Rattle.state_ranges.specs.Sums.{AreRangeSums}
 use Rattle.state_source.specs.Beside.{IsSeenOf}
 use Rattle.state_source.specs.Reading.{EndsAt}
-use Rattle.state_source.proofs.Beside.{IsGone}
+use Rattle.state_source.proofs.Gone.{IsGone}
 use Rattle.state_whole.specs.Files.{StateFile, file_bytes}
 use Rattle.state_source.proofs.beside.add_all.Given as goal
 
