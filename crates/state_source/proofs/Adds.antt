@@ -33,7 +33,7 @@ bytes_join shape fs gs = flat_map-append (file_bytes shape.kinds.now) fs gs
 stretches_join : (fs gs : List StateFile) → stretches_of (fs ++ gs) ≡ stretches_of fs ++ stretches_of gs
 stretches_join fs gs = flat_map-append {X = StateFile} {A = Stretch} (λ f. f.preface.cover) fs gs
 
-sum_join : (shape : Shape) (m : GroupsByKey) (fs gs : List StateFile) → sum_of shape m (fs ++ gs) ≡ sum_of shape (sum_of shape m fs) gs
+pub sum_join : (shape : Shape) (m : GroupsByKey) (fs gs : List StateFile) → sum_of shape m (fs ++ gs) ≡ sum_of shape (sum_of shape m fs) gs
 sum_join shape m fs gs = fold-append (λ (so_far : GroupsByKey) (f : StateFile). sum_with shape so_far (tuples_in f)) m fs gs
 
 summed_join : (shape : Shape) (m : GroupsByKey) (cover : List Stretch) (fs gs : List StateFile) (sum : Sum) → AreSummed (sum_of shape (sum_of shape m fs) gs) ((cover ++ stretches_of fs) ++ stretches_of gs) sum

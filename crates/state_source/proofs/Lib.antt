@@ -1,2 +1,5 @@
 mod Adds
+mod Gone
+mod Many
+mod Nowhere
 pub mod Rests

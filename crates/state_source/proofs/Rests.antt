@@ -45,3 +45,13 @@ pub of_read : (a b : Option (List ℕ)) (before held : List ℕ) (P : List ℕ �
 of_read a b before held P reads all =
     of_more a b reads.0 (λ rest. P (before ++ rest)) reads.1
     (of_any b (λ more. P (before ++ (reads.0 ++ more))) (λ more. subst P (ap (λ (bs : List ℕ). bs ++ more) reads.2 ∙ append_assoc before reads.0 more) (all more)))
+
+-- it holds of what was read and what is left
+pub of_reads : (a b : Option (List ℕ)) (before held : List ℕ) (P : List ℕ → Type 0) → ReadsOn a b before held → OfLeft b (λ more. P (held ++ more)) → OfLeft a (λ more. P (before ++ more))
+of_reads a b before held P reads is =
+    of_more a b reads.0 (λ rest. P (before ++ rest)) reads.1
+    (of_as b (λ more. P (held ++ more)) (λ more. P (before ++ (reads.0 ++ more))) (λ more here. subst P (ap (λ (bs : List ℕ). bs ++ more) reads.2 ∙ append_assoc before reads.0 more) here) is)
+
+-- it holds of two parts and what is left, put together either way
+pub of_apart : (a : Option (List ℕ)) (front held : List ℕ) (P : List ℕ → Type 0) → OfLeft a (λ more. P ((front ++ held) ++ more)) → OfLeft a (λ more. P (front ++ (held ++ more)))
+of_apart a front held P is = of_as a (λ more. P ((front ++ held) ++ more)) (λ more. P (front ++ (held ++ more))) (λ more here. subst P (append_assoc front held more) here) is

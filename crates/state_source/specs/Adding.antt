@@ -31,7 +31,8 @@ IsFaultOf shape subject keys m bytes fault.ReadFault = Unit {0}
 IsFaultOf shape subject keys m bytes fault.Memory = Unit {0}
 IsFaultOf shape subject keys m bytes (fault.Load why) = AreNoParts shape subject keys m bytes why
 
--- a fault of the file with this number after so many others: its number among all, or memory, if there is no such number
+-- a fault of the file with this number after so many others: its number among all, or memory, if there is no such
+-- number
 abbrev pub IsShifted : ℕ → SourceFault → SourceFault → Type 0
 IsShifted before fault.ReadFault why = why ≡ fault.ReadFault
 IsShifted before fault.Memory why = why ≡ fault.Memory

@@ -1,7 +1,8 @@
 //! The files of a source, added one after another.
 //!
-//! A file is added as soon as it is there, and its bytes are dropped then. If the next bytes are no file as they are, more are read; so why
-//! they are none is said only when the source is at its end, of all that is left, but for what no more bytes can change.
+//! A file is added as soon as it is there, and its bytes are dropped then. If the next bytes are no file as they are,
+//! more are read; so why they are none is said only when the source is at its end, of all that is left, but for what no
+//! more bytes can change.
 
 ghost use Rattle.std.specs.Prelude.{◌≡◌, ◌≤◌, ◌+◌, ◌++◌, List, ℕ, IfErr, IfOk, true};
 ghost use Rattle.par_io.specs.Faults.{Rose};
@@ -35,10 +36,11 @@ pub enum SourceFault {
     Load { fault: LoadFault },
 }
 
-/// Adds the files of a source, one after another, to a sum, and says how many they are. Some bytes were read of it already, by
-/// [`read_first`](crate::read_first). Each file has to say this plan, header, number of sources and range. Time is that of the
-/// bytes and a look-up for each group; memory is that of the groups that the sum keeps, of the covers, of the largest file and a
-/// sixteenth of it, and of one read; if a file is not taken, that of all bytes from it on. After an error a sum can only be dropped.
+/// Adds the files of a source, one after another, to a sum, and says how many they are. Some bytes were read of it
+/// already, by [`read_first`](crate::read_first). Each file has to say this plan, header, number of sources and range.
+/// Time is that of the bytes and a look-up for each group; memory is that of the groups that the sum keeps, of the
+/// covers, of the largest file and a sixteenth of it, and of one read; if a file is not taken, that of all bytes from
+/// it on. After an error a sum can only be dropped.
 pub fn add_source<S: Source>(
     alloc: Global,
     sum: &mut Sum<'_>,
@@ -72,8 +74,8 @@ pub fn add_source<S: Source>(
     Err(SourceFault::Memory)
 }
 
-/// What is to be done after the bytes that are held were looked at: a file of them was added; they are the last ones, and begin with none; or
-/// there have to be this many before they are looked at again.
+/// What is to be done after the bytes that are held were looked at: a file of them was added; they are the last ones,
+/// and begin with none; or there have to be this many before they are looked at again.
 #[derive(Clone, Copy)]
 enum Step {
     Added,
@@ -81,7 +83,8 @@ enum Step {
     Wanted(usize),
 }
 
-/// Adds the file that comes next, as soon as it is there. No if the source is at its end, and what is left begins with no file.
+/// Adds the file that comes next, as soon as it is there. No if the source is at its end, and what is left begins with
+/// no file.
 fn add_next<S: Source>(
     alloc: Global,
     sum: &mut Sum<'_>,
@@ -188,7 +191,7 @@ fn add_rest(
 }
 
 /// A fault of a file that comes after so many others.
-fn shifted(before: u64, why: SourceFault) -> SourceFault
+pub(crate) fn shifted(before: u64, why: SourceFault) -> SourceFault
     ensures { IsShifted before why result }
 {
     let SourceFault::Load { fault } = why else {

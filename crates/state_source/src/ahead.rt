@@ -15,8 +15,8 @@ use std::marker::Model;
 /// The most bytes of one read.
 pub(crate) const PIECE: usize = 65_536;
 
-/// Bytes that were read and not taken, and whether the source is at its end. The buffer keeps its room, and is moved to its front only
-/// before a read.
+/// Bytes that were read and not taken, and whether the source is at its end. The buffer keeps its room, and is moved to
+/// its front only before a read.
 #[derive(Drop)]
 pub(crate) struct Ahead {
     bytes: Vec<u8>,
@@ -125,7 +125,8 @@ fn remove_front(bytes: &mut Vec<u8>, count: usize)
     bytes.truncate(len - count);
 }
 
-/// Reads on behind some bytes until there are this many, or the source is at its end; whether it is. `piece` is room for one read.
+/// Reads on behind some bytes until there are this many, or the source is at its end; whether it is. `piece` is room
+/// for one read.
 pub(crate) fn read_to<S: Source>(
     source: &mut S,
     bytes: &mut Vec<u8>,

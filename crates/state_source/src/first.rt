@@ -22,8 +22,8 @@ pub struct FirstBytes {
     pub ended: bool,
 }
 
-/// Reads a source until what was read begins with the front of a file, or to its end. It reads at most twice the bytes of the
-/// front and 64 KiB if there is one, and takes memory for what it reads.
+/// Reads a source until what was read begins with the front of a file, or to its end. It reads at most twice the bytes
+/// of the front and 64 KiB if there is one, and takes memory for what it reads.
 pub fn read_first<S: Source>(alloc: Global, source: &mut S) -> Result<FirstBytes, SourceFault>
     ensures reads { IfOk result (λ first. Consumes (S.left source.old) (S.left source.new) first.bytes.items) }
     ensures begun { IfOk result (IsBegun (S.left source.new)) }

@@ -1,6 +1,7 @@
 //! How many bytes a file has at least, by the lengths that it says itself.
 //!
-//! Nothing hangs on these answers but how often it is tried whether a file is there: whatever they are, the same files are added.
+//! Nothing hangs on these answers but how often it is tried whether a file is there: whatever they are, the same files
+//! are added.
 
 use state_file::read_u32;
 
@@ -13,8 +14,9 @@ const AROUND: usize = 8;
 /// How many bytes come after the foot.
 const END: usize = 12;
 
-/// How many bytes there have to be before the file that some bytes begin with may be there; `None` if it may be there now, or if no more
-/// bytes come. That is more than there are by a sixteenth at least, so that the lengths of a long file are looked at a few times only.
+/// How many bytes there have to be before the file that some bytes begin with may be there; `None` if it may be there
+/// now, or if no more bytes come. That is more than there are by a sixteenth at least, so that the lengths of a long
+/// file are looked at a few times only.
 pub(crate) fn wanted_size(bytes: &[u8], ended: bool) -> Option<usize> {
     if ended {
         return None;
