@@ -1,0 +1,5 @@
+mod AllRanges
+mod Order
+mod Same
+mod SoFar
+mod Texts
