@@ -1,4 +1,5 @@
--- The keys of the groups of files are encodings of as many columns as the plan groups by, and their stretches are of their sources.
+-- The keys of the groups of files are encodings of as many columns as the plan groups by, and their stretches are of
+-- their sources.
 use Rattle.std.proofs.Common.{◌≡◌, ◌∙◌, ℕ, Bool, true, false, List, [], ◌∷◌, All, None, Option, Some, cond, get_or, refl, subst, sym}
 use Rattle.std.specs.Cmp.Lexicographic.{nat_list_cmp_total}
 use Rattle.std.specs.FinMap as map

@@ -4,5 +4,6 @@ mod Known
 mod Loads
 mod Pieces
 mod Ranges
+mod Sided
 mod Statuses
 mod Sums

@@ -10,12 +10,15 @@ use Rattle.state_front.specs.declared.title.FrontFault.TheVariants as front_faul
 use Rattle.state_head.specs.Head.{Preface, Subject, subject_of}
 use Rattle.state_head.specs.Words.{Keys, keys_of}
 use Rattle.state_load.specs.Faults.{AreNoParts}
-use Rattle.state_load.specs.Loading.{AreAdded, files_bytes}
+use Rattle.state_load.specs.Loading.{AreAdded, AreParts, files_bytes, stretches_of}
 use Rattle.state_load.specs.declared.loading.LoadFault.{LoadFault}
 use Rattle.state_plan.specs.FilePlans.{AskFor, HasNoPlan, IsPlanOf, header_of}
 use Rattle.state_plan.specs.declared.file_plan.FilePlan.{FilePlan}
 use Rattle.state_plan.specs.declared.file_plan.PlanFault.{PlanFault}
+use Rattle.state_ranges.specs.Sums.{AreRangeSums}
+use Rattle.state_ranges.specs.declared.sums.RangeSums.{RangeSums}
 use Rattle.state_source.specs.Adding.{IsFaultOf}
+use Rattle.state_source.specs.Beside.{AreInRanges}
 use Rattle.state_source.specs.Reading.{EndsAt, HasFront, IsNoLoad, OfLeft}
 use Rattle.state_source.specs.declared.adding.SourceFault.{SourceFault}
 use Rattle.state_source.specs.declared.adding.SourceFault.TheVariants as fault
@@ -24,7 +27,7 @@ use Rattle.state_whole.specs.Adding.{IsShapeOf}
 use Rattle.state_whole.specs.Files.{StateFile}
 use Rattle.state_whole.specs.declared.adding.Shape.{Shape}
 use Rattle.state_whole.specs.declared.files.Sum.{Sum}
-use Rattle.state_query.specs.Inputs.{Input, IsLoaded, IsOpened}
+use Rattle.state_query.specs.Inputs.{Input, IsInRanges, IsInput, IsLoaded, IsOpened, bound_of, groups_in}
 use Rattle.state_query.specs.declared.input.Opened.{Opened}
 use Rattle.state_query.specs.Whys.{GoesWrong, IsNoSource, NamesNoPlan}
 
@@ -60,19 +63,24 @@ shape_of s plan shape is of = subst (λ (p : Plan). IsShapeOf p shape) is.bound 
 abbrev pub made_of : Opened → Shape → List StateFile → Input
 made_of opened shape files = record { subject = subject_of opened.whole; keys = keys_of opened.range; query = opened.plan.plan; shape = shape; files = files }
 
+-- files of the query of the first one are an input
+made_input : (bytes : List ℕ) (opened : Opened) (shape : Shape) (files : List StateFile) → IsOpened bytes opened → IsShapeOf opened.plan.bound shape → AreParts shape (subject_of opened.whole) (keys_of opened.range) files → bytes ≡ files_bytes shape files
+    → IsInput bytes (made_of opened shape files)
+made_input bytes opened shape files is of are whole = record {
+  some = some_files shape is.front is.rest bytes files is.begins whole;
+  ask_for = is.is_plan.ask_for;
+  one = is.is_plan.one;
+  whole = is.is_plan.whole;
+  is_shape = shape_of (subject_of opened.whole) opened.plan shape is.is_plan of;
+  are = are;
+  is = whole;
+}
+
 pub loaded : (within : Keys) (bytes : List ℕ) (opened : Opened) (shape : Shape) (sum : Sum) (count : ℕ) (is : IsOpened bytes opened) → IsShapeOf opened.plan.bound shape → sum.kept.columns ≡ length opened.plan.bound.groups → keys_of sum.kept.range ≡ within
     → AreAdded shape (subject_of opened.whole) (keys_of opened.range) bytes map.empty [] sum count → IsLoaded within bytes (record { whole = opened.whole; range = opened.range; plan = opened.plan; sum = sum })
 loaded within bytes opened shape sum count is of columns range added = record {
   input = made_of opened shape added.files;
-  is_input = record {
-    some = some_files shape is.front is.rest bytes added.files is.begins added.is;
-    ask_for = is.is_plan.ask_for;
-    one = is.is_plan.one;
-    whole = is.is_plan.whole;
-    is_shape = shape_of (subject_of opened.whole) opened.plan shape is.is_plan of;
-    are = added.are;
-    is = added.is;
-  };
+  is_input = made_input bytes opened shape added.files is of added.are added.is;
   subject_is = refl;
   keys_are = refl;
   is_plan = is.is_plan;
@@ -81,6 +89,20 @@ loaded within bytes opened shape sum count is of columns range added = record {
   within_is = range;
   sum_is = added.sum_is;
 }
+
+-- likewise in ranges
+pub in_ranges : (bytes : List ℕ) (opened : Opened) (shape : Shape) (sums : RangeSums) → IsOpened bytes opened → IsShapeOf opened.plan.bound shape → AreInRanges shape (subject_of opened.whole) (keys_of opened.range) bytes sums → IsInRanges bytes opened sums
+in_ranges bytes opened shape sums is of are =
+    let i = made_of opened shape are.files in
+    let columns : shape.columns ≡ length (bound_of i).groups = of.columns ∙ ap (λ (p : Plan). length p.groups) is.is_plan.bound in
+    record {
+      input = i;
+      is_input = made_input bytes opened shape are.files is of are.are are.is;
+      subject_is = refl;
+      is_plan = is.is_plan;
+      query_is = refl;
+      sum_is = subst (λ (n : ℕ). AreRangeSums n (groups_in i) (stretches_of are.files) sums) columns are.sum_is;
+    }
 
 -- a file that is not taken
 pub goes_wrong : (bytes : List ℕ) (opened : Opened) (shape : Shape) (fault : LoadFault) → IsOpened bytes opened → IsShapeOf opened.plan.bound shape → AreNoParts shape (subject_of opened.whole) (keys_of opened.range) map.empty bytes fault → GoesWrong bytes fault

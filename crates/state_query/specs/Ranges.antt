@@ -68,6 +68,7 @@ IsRangeStop above below bytes why = ((why ≡ stop.NoKey) × HasNoRange above be
 abbrev pub IsRangeReadStop : List ℕ → List ℕ → List ℕ → Stop → Type 0
 IsRangeReadStop above below bytes why = (why ≡ stop.ReadFault) ⊎ IsRangeStop above below bytes why
 
--- why a call on a source that has these bytes left ends so: a read or a write failed, or the reason is one of the words and bytes
+-- why a call on a source that has these bytes left ends so: a read or a write failed, or the reason is one of the words
+-- and bytes
 abbrev pub IsRangeWhy : List ℕ → List ℕ → List ℕ → Stop → Type 0
 IsRangeWhy above below bytes why = (why ≡ stop.ReadFault) ⊎ ((why ≡ stop.WriteFault) ⊎ IsRangeStop above below bytes why)

@@ -72,8 +72,8 @@ pub(crate) fn open<'a>(alloc: Global, first: &'a FirstBytes) -> Result<Opened<'a
     }
 }
 
-/// The sum of the files of a source, of which the first one was opened: their groups within a range, which are the only ones that
-/// take memory.
+/// The sum of the files of a source, of which the first one was opened: their groups within a range, which are the only
+/// ones that take memory.
 pub(crate) fn load_within<'a, 'k, S: Source>(
     alloc: Global,
     first: &'a FirstBytes,

@@ -1,7 +1,8 @@
-//! Partial states over a source and a sink: several files as one file, and the table that the files of all parts come to.
+//! Partial states over a source and a sink: several files as one file, and the table that the files of all parts come
+//! to.
 //!
-//! The source may have any number of files, one after another. Each is added as it comes and dropped before the next one is read; if one is
-//! not taken, nothing is written.
+//! The source may have any number of files, one after another. Each is added as it comes and then dropped, so memory is
+//! that of one file, or of two if threads add them; if one is not taken, nothing is written.
 
 #![tactic(auto)]
 
@@ -30,16 +31,17 @@ use std::alloc::Global;
 use std::thread::Threads;
 pub use stop::{BAD_STATES, MISSING, Stop, WRITTEN};
 
-/// Reads files of one query and writes them as one file, or a line to `err` that says why there is none; the exit status. Time is linear
-/// in the input but for the order of its groups; memory is that of all groups, of the largest file of the input, and of the file.
+/// Reads files of one query and writes them as one file, or a line to `err` that says why there is none; the exit
+/// status. Time is linear in the input but for the order of its groups; memory is that of all groups, of the largest
+/// file of the input, and of the file.
 pub fn combine_states<S: Source, O: Sink, E: Sink>(
     alloc: Global,
     source: &mut S,
     out: &mut O,
     err: &mut E,
 ) -> u8
-    // On every status but that of a file there is a reason; the status is the reason's, and so is the line that `err` receives, or a
-    // prefix of it if a write of it failed. A fault is answered only if it came in this call.
+    // On every status but that of a file there is a reason; the status is the reason's, and so is the line that `err`
+    // receives, or a prefix of it if a write of it failed. A fault is answered only if it came in this call.
     ensures why { (result ≢ WRITTEN) → (why : Stop) × IfSome (S.left source.old) (λ bytes. IsWhy bytes why) × (result ≡ (stop_says why).0)
         × IsSaid (E.taken err.old) (E.taken err.new) (E.faults err.old) (E.faults err.new) (line (stop_says why).1) }
     ensures read_fault { result ≡ READ_FAULT → Rose (S.faults source.old) (S.faults source.new) }
@@ -58,9 +60,12 @@ pub fn combine_states<S: Source, O: Sink, E: Sink>(
     }
 }
 
-/// Reads the files of all parts and writes the table that they come to, or a line to `err` that says why there is none; the exit status.
-/// The lines are made by at most this many threads. Time is linear in the input but for the order of its groups; memory is that of
-/// all groups, of the largest file of the input, and of the text.
+/// Reads the files of all parts and writes the table that they come to, or a line to `err` that says why there is none;
+/// the exit status. At most this many threads work, including the caller's. If there are two or more and the plan
+/// groups by columns, they add each file in ranges of keys while the next one is checked, and then make the lines of
+/// each range. Otherwise only the lines are shared out. Time is linear in the input but for the order of its groups;
+/// memory is that of all groups, of the text, and of the largest file of the input, or of two files if they are added
+/// in ranges.
 pub fn finalize_states<R: Threads + Sync, S: Source, O: Sink, E: Sink>(
     rt: &R,
     alloc: Global,
@@ -69,8 +74,8 @@ pub fn finalize_states<R: Threads + Sync, S: Source, O: Sink, E: Sink>(
     out: &mut O,
     err: &mut E,
 ) -> u8
-    // On every status but that of a table there is a reason; the status is the reason's, and so is the line that `err` receives, or a
-    // prefix of it if a write of it failed. A fault is answered only if it came in this call.
+    // On every status but that of a table there is a reason; the status is the reason's, and so is the line that `err`
+    // receives, or a prefix of it if a write of it failed. A fault is answered only if it came in this call.
     ensures why { (result ≢ WRITTEN) → (why : Stop) × IfSome (S.left source.old) (λ bytes. IsWhy bytes why) × (result ≡ (stop_says why).0)
         × IsSaid (E.taken err.old) (E.taken err.new) (E.faults err.old) (E.faults err.new) (line (stop_says why).1) }
     ensures read_fault { result ≡ READ_FAULT → Rose (S.faults source.old) (S.faults source.new) }
@@ -89,10 +94,10 @@ pub fn finalize_states<R: Threads + Sync, S: Source, O: Sink, E: Sink>(
     }
 }
 
-/// Reads the files of all parts and writes the lines of one range of the table that they come to, after the header if the range has no low
-/// end; or a line to `err` that says why there are none; the exit status. The texts of ranges one after another are the table. Time is
-/// linear in the input but for the order of its groups; memory is that of the groups and the text of the range, and of the largest file of
-/// the input.
+/// Reads the files of all parts and writes the lines of one range of the table that they come to, after the header if
+/// the range has no low end; or a line to `err` that says why there are none; the exit status. The texts of ranges one
+/// after another are the table. Time is linear in the input but for the order of its groups; memory is that of the
+/// groups and the text of the range, and of the largest file of the input.
 pub fn finalize_range<S: Source, O: Sink, E: Sink>(
     alloc: Global,
     words: RangeWords<'_>,
@@ -100,8 +105,8 @@ pub fn finalize_range<S: Source, O: Sink, E: Sink>(
     out: &mut O,
     err: &mut E,
 ) -> u8
-    // On every status but that of a text there is a reason; the status is the reason's, and so is the line that `err` receives, or a
-    // prefix of it if a write of it failed. A fault is answered only if it came in this call.
+    // On every status but that of a text there is a reason; the status is the reason's, and so is the line that `err`
+    // receives, or a prefix of it if a write of it failed. A fault is answered only if it came in this call.
     ensures why { (result ≢ WRITTEN) → (why : Stop) × IfSome (S.left source.old) (λ bytes. IsRangeWhy words.entry.above.now words.entry.below.now bytes why) × (result ≡ (stop_says why).0)
         × IsSaid (E.taken err.old) (E.taken err.new) (E.faults err.old) (E.faults err.new) (line (stop_says why).1) }
     ensures read_fault { result ≡ READ_FAULT → Rose (S.faults source.old) (S.faults source.new) }

@@ -18,8 +18,8 @@ use state_range::{BoundFault, bound_key};
 use state_source::FirstBytes;
 use std::alloc::Global;
 
-/// The ends of a range, each a record of the columns that the plan groups by, as a line of the table begins, or empty if the range has no
-/// such end: the groups from `above` on and before `below`.
+/// The ends of a range, each a record of the columns that the plan groups by, as a line of the table begins, or empty
+/// if the range has no such end: the groups from `above` on and before `below`.
 #[derive(Clone, Copy)]
 pub struct RangeWords<'a> {
     pub above: &'a [u8],
@@ -33,8 +33,8 @@ struct Ends {
     high: Vec<u8>,
 }
 
-/// The text of a range of the table that the files of a source come to, in pieces, one after another. Only the groups of the range take
-/// memory, and one file.
+/// The text of a range of the table that the files of a source come to, in pieces, one after another. Only the groups
+/// of the range take memory, and one file.
 pub(crate) fn range_pieces<S: Source>(
     alloc: Global,
     words: RangeWords<'_>,
@@ -87,8 +87,8 @@ fn pieces_between<'a, S: Source>(
     }
 }
 
-/// Why there is no text if the words name no range: the files' own fault if they have one, else that of the words. Files are read before
-/// words are blamed; none of their groups is kept.
+/// Why there is no text if the words name no range: the files' own fault if they have one, else that of the words.
+/// Files are read before words are blamed; none of their groups is kept.
 fn stop_without_ends<'a, S: Source>(
     alloc: Global,
     words: RangeWords<'_>,
