@@ -18,14 +18,14 @@ use std::test::Fail;
 
 /// The file of the 24 bytes `k,v`, `b,`, `abc,1`, `abc,2`, `abc,`: its first line, head, block, end of blocks, foot, end. In the map `b` comes
 /// before `abc`.
-const FILE: &[u8] = b"parstream states 1\n\
+pub(crate) const FILE: &[u8] = b"parstream states 1\n\
     %\0\0\0\x01k\x11sum:v,count,avg:v\0\0\x04k,v\n\x01\x01\0\0\x18\x18\0\x04\0\0m\x85\xcfg\
     \x15\0\0\0\x07\x03\0\0\0abc\x03\x02\x06\x02\x01\x05\x01\0\0\0b\x01\0\xb7\xcf\xb4\xe5\
     \0\0\0\0\0\0\0\0\
     \x0b\0\0\0\x02\x01@\x07\x03\0\0\0abc2\x819\x8f\
     \x0b\0\0\0\nstates\n";
 
-const WHOLE: Whole<'_> = Whole {
+pub(crate) const WHOLE: Whole<'_> = Whole {
     words: PlanWords {
         group: b"k",
         agg: b"sum:v,count,avg:v",
@@ -36,13 +36,13 @@ const WHOLE: Whole<'_> = Whole {
     sources: 1,
 };
 
-const RANGE: KeyRange<'_> = KeyRange {
+pub(crate) const RANGE: KeyRange<'_> = KeyRange {
     low: b"",
     high: b"",
 };
 
 /// All bytes of the source.
-const STRETCH: Stretch = Stretch {
+pub(crate) const STRETCH: Stretch = Stretch {
     place: Place {
         source: 0,
         from: 0,
@@ -76,7 +76,7 @@ const LANES: [Lane; 1] = [Lane::Numbers {
     places: 0,
 }];
 
-const SHAPE: Shape<'_> = Shape {
+pub(crate) const SHAPE: Shape<'_> = Shape {
     columns: 1,
     lanes: &LANES,
     kinds: &[true],

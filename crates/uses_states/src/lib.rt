@@ -21,3 +21,5 @@ mod lanes;
 mod orders;
 #[cfg(test)]
 mod parts;
+#[cfg(test)]
+mod ranges;
