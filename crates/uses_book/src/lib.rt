@@ -26,6 +26,8 @@ mod trade;
 #[cfg(test)]
 mod trades;
 #[cfg(test)]
+mod turns;
+#[cfg(test)]
 mod twice;
 
 pub use asks::{Answer, Ask, Call, DrawerName, Reply};

@@ -1,15 +1,13 @@
-//! A shared area, of which all threads take chunks and give them back.
+//! An area, and a thread that takes chunks of it and gives them back: each at once, or a hundred calls later.
 
 ghost use Rattle.std.specs.Prelude.{◌≡◌, ◌<◌, ◌≤◌, All, IfOk, vec_len};
 ghost use Rattle.dsa_area.specs.Shown.{AreAll, Belongs, IsArea, callers_of};
 
-use crate::counts::sum_of;
 use dsa_area::{Area, AreaPass, area_words};
 use region_words::{Chunk, Region};
 use std::alloc::{AllocError, Global};
 use std::mem;
 use std::sync::Wait;
-use std::thread::{Threads, map_vec};
 
 /// The pages of the area whose chunks are timed: 16 MiB.
 pub const PAGES: u32 = 4096;
@@ -18,7 +16,6 @@ pub const PAGES: u32 = 4096;
 const WINDOW: usize = 100;
 
 /// A region with an area of this many pages after its first word, and a pass for each caller.
-#[tactic(auto, using(word_map::proofs::Maps::answers, std::proofs::lemmas::Bool::Decides::nat_tests))]
 pub fn area_for(
     alloc: Global,
     pages: u32,
@@ -61,7 +58,7 @@ fn take_and_give<R: Wait>(
 
 /// Takes a chunk, writes its first word and gives it back, this many times. Says how often the area gave the chunk and
 /// took it.
-fn pairs<R: Wait>(
+pub fn pairs<R: Wait>(
     rt: &R,
     area: &Area,
     r: &Region,
@@ -82,32 +79,6 @@ fn pairs<R: Wait>(
         }
     }
     good
-}
-
-/// Has this many threads take and give back this many chunks each, of this many bytes. Says how often the area gave one
-/// and took it.
-pub fn area_load<R: Threads + Wait + Sync>(
-    rt: &R,
-    alloc: Global,
-    threads: u32,
-    calls: u64,
-    bytes: u64,
-) -> Result<u64, AllocError>
-    requires some { 1 ≤ threads }
-    requires bytes { 8 ≤ bytes }
-    requires bytes_few { bytes ≤ 1000000 }
-{
-    let (region, area, passes) = area_for(alloc, PAGES, threads)?;
-    let here = &region;
-    let shared = &area;
-    let good = map_vec(
-        rt,
-        passes,
-        &|pass: AreaPass| -> u64
-            requires { IsArea here.now shared.now × Belongs shared.now pass × (8 ≤ bytes) × (bytes ≤ 1000000) }
-        { pairs(rt, shared, here, pass, bytes, calls) },
-    )?;
-    Ok(sum_of(good.as_slice()))
 }
 
 /// Takes the chunks that are live at once, or those that the area has room for.
@@ -168,7 +139,7 @@ fn exchange<R: Wait>(
 
 /// Takes a chunk, writes its first word and gives back the one that was taken longest ago, this many times. Says how
 /// often the area gave the one and took the other, and 0 if it has no room for the chunks that are to be live at once.
-fn exchanges<R: Wait>(
+pub fn exchanges<R: Wait>(
     rt: &R,
     alloc: Global,
     area: &Area,
@@ -197,30 +168,4 @@ fn exchanges<R: Wait>(
         }
     }
     good
-}
-
-/// Has this many threads take this many chunks each, of this many bytes, and give each back a hundred calls later. Says
-/// how often the area gave one and took one.
-pub fn window_load<R: Threads + Wait + Sync>(
-    rt: &R,
-    alloc: Global,
-    threads: u32,
-    calls: u64,
-    bytes: u64,
-) -> Result<u64, AllocError>
-    requires some { 1 ≤ threads }
-    requires bytes { 8 ≤ bytes }
-    requires bytes_few { bytes ≤ 1000000 }
-{
-    let (region, area, passes) = area_for(alloc, PAGES, threads)?;
-    let here = &region;
-    let shared = &area;
-    let good = map_vec(
-        rt,
-        passes,
-        &|pass: AreaPass| -> u64
-            requires { IsArea here.now shared.now × Belongs shared.now pass × (8 ≤ bytes) × (bytes ≤ 1000000) }
-        { exchanges(rt, alloc, shared, here, pass, bytes, calls) },
-    )?;
-    Ok(sum_of(good.as_slice()))
 }

@@ -4,14 +4,17 @@
 //! It is what `bench/objects.py` times: it takes no time itself, and prints one line that no schedule changes, with
 //! what it was asked and how many of the calls went as they have to. Its stored run makes a small load of each kind.
 //!
-//! `words` reads what is asked; `lock`, `area`, `spares`, `queue`, `table` (new keys) and `present` (keys that are
-//! there) are the loads; `counter` is what is behind the lock, and `counts` adds up what the threads counted.
+//! `words` reads what is asked; `lock`, `chunks`, `queue` and `keys` are the loads. What a thread does with chunks is in
+//! `area` and `spares`, and with keys in `table` (new ones) and `present` (those that are there). `counter` is what is
+//! behind the lock, and `counts` adds up what the threads counted.
 
 #![tactic(auto)]
 
 mod area;
+mod chunks;
 mod counter;
 mod counts;
+mod keys;
 mod lock;
 mod present;
 mod queue;
@@ -19,12 +22,10 @@ mod spares;
 mod table;
 mod words;
 
-use crate::area::{area_load, window_load};
+use crate::chunks::chunks_load;
+use crate::keys::keys_load;
 use crate::lock::lock_load;
-use crate::present::{gets_load, sets_load};
 use crate::queue::queue_load;
-use crate::spares::spares_load;
-use crate::table::puts_load;
 use crate::words::{Kind, Load, load_of};
 use std::alloc::{AllocError, Global};
 use std::env;
@@ -71,41 +72,24 @@ fn line<R: Threads + Wait + Sync>(rt: &R, alloc: Global, load: Load) -> Result<S
             let value = lock_load(rt, alloc, threads, calls)?;
             format!(in alloc; "lock: {threads} threads, {all} calls, value {value}")
         }
-        Kind::Area => {
-            let good = area_load(rt, alloc, threads, calls, size)?;
-            format!(in alloc; "area: {threads} threads, {all} pairs of {size} bytes, {good} good")
+        Kind::Chunks(way) => {
+            let good = chunks_load(rt, alloc, way, threads, calls, size)?;
+            let name = way.name();
+            format!(in alloc; "{name}: {threads} threads, {all} pairs of {size} bytes, {good} good")
         }
-        Kind::Spares => {
-            let good = spares_load(rt, alloc, threads, calls, size)?;
-            format!(in alloc; "spares: {threads} threads, {all} pairs of {size} bytes, {good} good")
-        }
-        Kind::Window => {
-            let good = window_load(rt, alloc, threads, calls, size)?;
-            format!(in alloc; "window: {threads} threads, {all} pairs of {size} bytes, {good} good")
-        }
-        Kind::Queue => {
-            let came = queue_load(rt, alloc, calls, size, false)?;
+        Kind::Queue { flush } => {
+            let came = queue_load(rt, alloc, calls, size, flush)?;
+            let name = if flush { "flushed" } else { "queue" };
             format!(in alloc;
-                "queue: {threads} threads, {calls} messages of {size} bytes, {came} came"
+                "{name}: {threads} threads, {calls} messages of {size} bytes, {came} came"
             )
         }
-        Kind::Flushed => {
-            let came = queue_load(rt, alloc, calls, size, true)?;
+        Kind::Keys(work) => {
+            let done = keys_load(rt, alloc, work, threads, calls, size)?;
+            let (name, what) = work.names();
             format!(in alloc;
-                "flushed: {threads} threads, {calls} messages of {size} bytes, {came} came"
+                "{name}: {threads} threads, {all} {name} on {size} keys, {done} {what}"
             )
-        }
-        Kind::Puts => {
-            let new = puts_load(rt, alloc, threads, calls, size)?;
-            format!(in alloc; "puts: {threads} threads, {all} puts on {size} keys, {new} new")
-        }
-        Kind::Gets => {
-            let found = gets_load(rt, alloc, threads, calls, size)?;
-            format!(in alloc; "gets: {threads} threads, {all} gets on {size} keys, {found} found")
-        }
-        Kind::Sets => {
-            let there = sets_load(rt, alloc, threads, calls, size)?;
-            format!(in alloc; "sets: {threads} threads, {all} sets on {size} keys, {there} there")
         }
     }
 }

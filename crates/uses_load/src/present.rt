@@ -1,19 +1,16 @@
-//! A hash table of `dshash_parts` that is filled first, and whose keys all threads get, or put another number under.
+//! A hash table of `dshash_parts` that is filled first, and whose keys a thread gets, or puts another number under.
 
 ghost use Rattle.std.specs.Prelude.{◌≡◌, ◌^◌, ◌<◌, ◌≤◌};
 ghost use Rattle.dsa_area.specs.Shown.{IsArea};
 ghost use Rattle.dshash_parts.specs.Tables.{IsHome, IsTable, key_words_of};
 ghost use Rattle.uses_load.specs.Passes.{HasBoth};
 
-use crate::counts::sum_of;
-use crate::table::{Passes, table_for};
+use crate::table::Passes;
 use dsa_area::Area;
 use dshash_numbers::{Number, NumberCall};
 use dshash_parts::Dshash;
 use region_words::Region;
-use std::alloc::{AllocError, Global};
 use std::sync::Wait;
-use std::thread::{Threads, map_vec};
 
 /// An odd number whose multiples are spread over all words.
 const SPREAD: u64 = 0x9E37_79B9_7F4A_7C15;
@@ -62,7 +59,7 @@ fn changes<R: Wait>(
 }
 
 /// Puts the keys from 0 on, this many of them, each with itself as its number.
-fn fill<R: Wait>(
+pub fn fill<R: Wait>(
     rt: &R,
     table: &Dshash<Number>,
     r: &Region,
@@ -83,7 +80,7 @@ fn fill<R: Wait>(
 }
 
 /// Gets this many of the keys from 0 on, in the caller's own order. Says how many were found.
-fn gets<R: Wait>(
+pub fn gets<R: Wait>(
     rt: &R,
     table: &Dshash<Number>,
     r: &Region,
@@ -113,7 +110,7 @@ fn gets<R: Wait>(
 }
 
 /// Puts other numbers under this many of the keys from 0 on, in the caller's own order. Says how many were there.
-fn sets<R: Wait>(
+pub fn sets<R: Wait>(
     rt: &R,
     table: &Dshash<Number>,
     r: &Region,
@@ -139,64 +136,4 @@ fn sets<R: Wait>(
         }
     }
     there
-}
-
-/// Puts `keys` keys into a table, and has this many threads get one of them this many times each. Says how many were
-/// found.
-pub fn gets_load<R: Threads + Wait + Sync>(
-    rt: &R,
-    alloc: Global,
-    threads: u32,
-    calls: u64,
-    keys: u64,
-) -> Result<u64, AllocError>
-    requires some { 1 ≤ threads }
-    requires threads_few { threads ≤ 64 }
-    requires calls_few { calls ≤ 2 ^ 32 }
-    requires keys_some { 1 ≤ keys }
-    requires keys_few { keys ≤ 1000000 }
-{
-    let (region, area, table, mut first, passes) = table_for(rt, alloc, keys, threads)?;
-    fill(rt, &table, &region, &area, &mut first, keys);
-    let here = &region;
-    let shared_area = &area;
-    let shared = &table;
-    let found = map_vec(
-        rt,
-        passes,
-        &|own: Passes| -> u64
-            requires { IsTable here.now shared.now × (key_words_of shared.now ≡ 1) × IsArea here.now shared_area.now × IsHome shared_area.now shared.now × HasBoth shared.now shared_area.now own × (1 ≤ keys) }
-        { gets(rt, shared, here, shared_area, own, calls, keys) },
-    )?;
-    Ok(sum_of(found.as_slice()))
-}
-
-/// Puts `keys` keys into a table, and has this many threads put another number under one of them this many times each.
-/// Says how many were there.
-pub fn sets_load<R: Threads + Wait + Sync>(
-    rt: &R,
-    alloc: Global,
-    threads: u32,
-    calls: u64,
-    keys: u64,
-) -> Result<u64, AllocError>
-    requires some { 1 ≤ threads }
-    requires threads_few { threads ≤ 64 }
-    requires calls_few { calls ≤ 2 ^ 32 }
-    requires keys_some { 1 ≤ keys }
-    requires keys_few { keys ≤ 1000000 }
-{
-    let (region, area, table, mut first, passes) = table_for(rt, alloc, keys, threads)?;
-    fill(rt, &table, &region, &area, &mut first, keys);
-    let here = &region;
-    let shared_area = &area;
-    let shared = &table;
-    let there = map_vec(
-        rt,
-        passes,
-        &|own: Passes| -> u64
-            requires { IsTable here.now shared.now × (key_words_of shared.now ≡ 1) × IsArea here.now shared_area.now × IsHome shared_area.now shared.now × HasBoth shared.now shared_area.now own × (1 ≤ keys) }
-        { sets(rt, shared, here, shared_area, own, calls, keys) },
-    )?;
-    Ok(sum_of(there.as_slice()))
 }

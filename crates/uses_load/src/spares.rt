@@ -1,17 +1,14 @@
-//! A shared area, of which all threads take chunks and give them back, each by way of spares of its own.
+//! A thread that takes chunks of an area and gives them back, by way of spares of its own.
 
 ghost use Rattle.std.specs.Prelude.{◌≡◌, ◌≤◌};
 ghost use Rattle.dsa_area.specs.Shown.{Belongs, IsArea};
 ghost use Rattle.area_spares.specs.Classes.{AreSpares};
 
-use crate::area::{PAGES, area_for};
-use crate::counts::sum_of;
 use area_spares::ClassSpares;
 use dsa_area::{Area, AreaPass};
 use region_words::Region;
-use std::alloc::{AllocError, Global};
+use std::alloc::Global;
 use std::sync::Wait;
-use std::thread::{Threads, map_vec};
 
 /// Takes a chunk, writes its first word and gives it back. Says whether both went as they have to.
 fn take_and_give<R: Wait>(
@@ -40,7 +37,7 @@ fn take_and_give<R: Wait>(
 
 /// Takes a chunk, writes its first word and gives it back, this many times, and what is kept at the end. Says how often
 /// the first went as it has to, and 0 if there is no memory for the spares, or one of them does not go back.
-fn pairs<R: Wait>(
+pub fn pairs<R: Wait>(
     rt: &R,
     alloc: Global,
     area: &Area,
@@ -68,30 +65,4 @@ fn pairs<R: Wait>(
         Ok(()) => good,
         Err(_) => 0,
     }
-}
-
-/// Has this many threads take and give back this many chunks each, of this many bytes. Says how often that went as it
-/// has to.
-pub fn spares_load<R: Threads + Wait + Sync>(
-    rt: &R,
-    alloc: Global,
-    threads: u32,
-    calls: u64,
-    bytes: u64,
-) -> Result<u64, AllocError>
-    requires some { 1 ≤ threads }
-    requires bytes { 8 ≤ bytes }
-    requires bytes_few { bytes ≤ 1000000 }
-{
-    let (region, area, passes) = area_for(alloc, PAGES, threads)?;
-    let here = &region;
-    let shared = &area;
-    let good = map_vec(
-        rt,
-        passes,
-        &|pass: AreaPass| -> u64
-            requires { IsArea here.now shared.now × Belongs shared.now pass × (8 ≤ bytes) × (bytes ≤ 1000000) }
-        { pairs(rt, alloc, shared, here, pass, bytes, calls) },
-    )?;
-    Ok(sum_of(good.as_slice()))
 }

@@ -1,4 +1,4 @@
-//! A hash table of `dshash_parts`, in its own area, into which all threads put new keys.
+//! A hash table of `dshash_parts`, in its own area, and a thread that puts new keys into it.
 
 ghost use Rattle.std.specs.Prelude.{◌≡◌, ℕ, ◌+◌, ◌^◌, ◌<◌, ◌≤◌, length, IfOk};
 ghost use mathlib.Core.Option.{some};
@@ -11,7 +11,6 @@ ghost use Rattle.dshash_parts.specs.Tables.{IsHome, IsSpare, IsTable, Belongs, i
 ghost use Rattle.uses_load.specs.Passes.{AreBoth, HasBoth};
 
 use crate::area::area_for;
-use crate::counts::sum_of;
 use area_spares::Spares;
 use dsa_area::{Area, AreaPass};
 use dshash_numbers::{Number, NumberCall};
@@ -20,7 +19,6 @@ use item_spares::{call_from, spares_for};
 use region_words::{Chunk, Region};
 use std::alloc::{AllocError, Global};
 use std::sync::Wait;
-use std::thread::{Threads, map_vec};
 
 /// A caller's two passes.
 #[derive(Drop)]
@@ -239,7 +237,7 @@ fn put_next<R: Wait>(
 /// Puts this many of the caller's own keys, of which `most` at most are there at once. The item of a key that goes is
 /// kept for the next one, and what is kept goes back at the end. Says how many were new, and 0 if there is no memory for a
 /// list, or one of its items does not go back.
-fn puts<R: Wait>(
+pub fn puts<R: Wait>(
     rt: &R,
     alloc: Global,
     table: &Dshash<Number>,
@@ -282,32 +280,4 @@ fn puts<R: Wait>(
         Ok(()) => new,
         Err(_) => 0,
     }
-}
-
-/// Has this many threads put this many new keys each, of which `keys` are there at once. Says how many were new.
-pub fn puts_load<R: Threads + Wait + Sync>(
-    rt: &R,
-    alloc: Global,
-    threads: u32,
-    calls: u64,
-    keys: u64,
-) -> Result<u64, AllocError>
-    requires some { 1 ≤ threads }
-    requires threads_few { threads ≤ 64 }
-    requires calls_few { calls ≤ 2 ^ 32 }
-    requires keys_few { keys ≤ 1000000 }
-{
-    let (region, area, table, _first, passes) = table_for(rt, alloc, keys, threads)?;
-    let here = &region;
-    let shared_area = &area;
-    let shared = &table;
-    let most = keys / u64::from(threads);
-    let new = map_vec(
-        rt,
-        passes,
-        &|own: Passes| -> u64
-            requires { IsTable here.now shared.now × (key_words_of shared.now ≡ 1) × IsArea here.now shared_area.now × IsHome shared_area.now shared.now × HasBoth shared.now shared_area.now own × (calls ≤ 2 ^ 32) }
-        { puts(rt, alloc, shared, here, shared_area, own, calls, most) },
-    )?;
-    Ok(sum_of(new.as_slice()))
 }

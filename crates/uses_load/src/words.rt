@@ -2,6 +2,9 @@
 
 ghost use Rattle.std.specs.Prelude.{◌≡◌, ◌≤◌, ◌^◌, IsTrue, IfSome};
 
+use crate::chunks::Way;
+use crate::keys::Work;
+
 /// The most threads of a load.
 const MOST_THREADS: u64 = 64;
 
@@ -21,26 +24,17 @@ const MOST_SIZE: u64 = 1_000_000;
 const FEWEST_WORDS: usize = 3;
 
 /// The object that is called, and how.
-#[derive(Clone, Copy, PartialEq)]
+#[derive(Clone, Copy)]
 pub enum Kind {
     /// Each call adds 1 to a number behind a lock.
     Lock,
-    /// Each call allocates a chunk, writes a word of it and frees it.
-    Area,
-    /// The same, by way of spares that each thread keeps.
-    Spares,
-    /// Each call allocates a chunk, writes a word of it and frees the one that was allocated a hundred calls before.
-    Window,
-    /// Each call sends a message, or receives it. The receiver may see it later.
-    Queue,
-    /// Each call sends a message, or receives it. The receiver is shown each message at once.
-    Flushed,
-    /// Each call puts a new key; with more keys than the table is to have, the thread's oldest goes first.
-    Puts,
-    /// Each call gets a present key.
-    Gets,
-    /// Each call puts another number under a present key.
-    Sets,
+    /// Each call allocates a chunk, writes a word of it, and frees it or one that was allocated before.
+    Chunks(Way),
+    /// Each call sends a message, or receives it. With `flush` the receiver is shown each message at once, and otherwise it
+    /// may see it later.
+    Queue { flush: bool },
+    /// Each call puts or gets a key.
+    Keys(Work),
 }
 
 /// A run: this many threads make this many calls each. `size` is in bytes or in keys.
@@ -61,21 +55,16 @@ pub struct Load {
 fn kind_of(word: &str) -> Option<Kind> {
     match word {
         "lock" => Some(Kind::Lock),
-        "area" => Some(Kind::Area),
-        "spares" => Some(Kind::Spares),
-        "window" => Some(Kind::Window),
-        "queue" => Some(Kind::Queue),
-        "flushed" => Some(Kind::Flushed),
-        "puts" => Some(Kind::Puts),
-        "gets" => Some(Kind::Gets),
-        "sets" => Some(Kind::Sets),
+        "area" => Some(Kind::Chunks(Way::Pairs)),
+        "spares" => Some(Kind::Chunks(Way::Spares)),
+        "window" => Some(Kind::Chunks(Way::Window)),
+        "queue" => Some(Kind::Queue { flush: false }),
+        "flushed" => Some(Kind::Queue { flush: true }),
+        "puts" => Some(Kind::Keys(Work::Puts)),
+        "gets" => Some(Kind::Keys(Work::Gets)),
+        "sets" => Some(Kind::Keys(Work::Sets)),
         _ => None,
     }
-}
-
-/// Whether the object is a queue, which has a thread at each end.
-fn is_queue(kind: Kind) -> bool {
-    matches!(kind, Kind::Queue | Kind::Flushed)
 }
 
 /// The number from `least` to `most` that the word writes.
@@ -102,7 +91,7 @@ pub fn load_of(words: &[String]) -> Option<Load> {
         Some(word) => number(word.as_str(), LEAST_SIZE, MOST_SIZE)?,
         None => LEAST_SIZE,
     };
-    if is_queue(kind) && threads != QUEUE_THREADS {
+    if matches!(kind, Kind::Queue { .. }) && threads != QUEUE_THREADS {
         return None;
     }
     Some(Load {

@@ -43,9 +43,5 @@ pub three_words : IsFramed 64 (10 ∷ 7523094288207667809 ∷ 12849 ∷ [])
 unfolding IsFramed
 three_words = (long ∷ short ∷ [], 3 ∷ 197121 ∷ [], are_messages, refl)
 
-pub four_words : IsFramed 64 (10 ∷ 7523094288207667809 ∷ 12849 ∷ 3 ∷ [])
-unfolding IsFramed
-four_words = (long ∷ short ∷ [], 197121 ∷ [], are_messages, refl)
-
 -- for the tests, which store these words
-pub ruleset framed = (one_word, two_words, three_words, four_words)
+pub ruleset framed = (one_word, two_words, three_words)

@@ -2,6 +2,7 @@
 
 ghost use Rattle.std.specs.Prelude.{◌≡◌, ◌<◌, ◌≤◌, ◌*◌, ◌+◌, ◌^◌, ◌++◌, [], false, true, length, IfSome, IsTrue};
 ghost use Rattle.mq_handle.specs.Messages.{left_of};
+ghost use Rattle.mq_handle.specs.Parts.{joined};
 ghost use Rattle.mq_handle.specs.Sends.{Continues};
 ghost use Rattle.mq_handle.specs.Waiting.{EndsSend};
 
@@ -38,6 +39,127 @@ fn new_queue(alloc: Global, words: u64, from: u64, max: u32) -> Option<(Region, 
     }
 }
 
+/// Tries to send a message, whose first words may be on the ring. Says whether it was sent.
+fn sends(r: &Region, s: &mut Sender, message: &[u8], flush: bool) -> bool
+    requires here { s.old.region ≡ r.now }
+    requires stays { s.old.end.gone ≡ false }
+    requires continues { Continues s.old.end.put message.now }
+    ensures kept { s.new ≡ record s.old { end = s.new.end } }
+    ensures ring { (s.new.end.ring ≡ s.old.end.ring) × (s.new.end.gone ≡ false) }
+    ensures fresh { result ≡ true → left_of s.new.end.put ≡ [] }
+{
+    match s.try_send(r, message, flush) {
+        SendAnswer::Sent => true,
+        _ => false,
+    }
+}
+
+/// Tries to send a message that the ring has no room for. Says whether this many of its words are on the ring.
+fn stores(r: &Region, s: &mut Sender, message: &[u8], words: u64) -> bool
+    requires here { s.old.region ≡ r.now }
+    requires stays { s.old.end.gone ≡ false }
+    requires continues { Continues s.old.end.put message.now }
+    ensures kept { s.new ≡ record s.old { end = s.new.end } }
+    ensures stays { s.new.end.gone ≡ false }
+    ensures continues { result ≡ true → Continues s.new.end.put message.now }
+{
+    match s.try_send(r, message, true) {
+        SendAnswer::WouldBlock { stored } => stored == words,
+        _ => false,
+    }
+}
+
+/// Tries to send a message that is longer than the queue takes. Says whether the answer has this length.
+fn is_too_long(r: &Region, s: &mut Sender, message: &[u8], bytes: u64) -> bool
+    requires here { s.old.region ≡ r.now }
+    requires stays { s.old.end.gone ≡ false }
+    requires fresh { left_of s.old.end.put ≡ [] }
+    ensures kept { s.new ≡ record s.old { end = s.new.end } }
+    ensures stays { s.new.end.gone ≡ false }
+    ensures fresh { result ≡ true → left_of s.new.end.put ≡ [] }
+{
+    match s.try_send(r, message, true) {
+        SendAnswer::TooLong { length } => length == bytes,
+        _ => false,
+    }
+}
+
+/// Tries to put a message whole. Says whether this is the answer. No part of it is ever on the ring.
+fn answers_whole(
+    r: &Region,
+    s: &mut Sender,
+    message: &[u8],
+    flush: bool,
+    answer: SendAnswer,
+) -> bool
+    requires here { s.old.region ≡ r.now }
+    requires stays { s.old.end.gone ≡ false }
+    requires fresh { left_of s.old.end.put ≡ [] }
+    ensures kept { s.new ≡ record s.old { end = s.new.end } }
+    ensures stays { s.new.end.gone ≡ false }
+    ensures fresh { left_of s.new.end.put ≡ [] }
+{
+    s.try_send_whole(r, message, flush) == answer
+}
+
+/// The same with a message in two parts.
+fn answers_two_parts(r: &Region, s: &mut Sender, parts: &[&[u8]; 2], answer: SendAnswer) -> bool
+    requires here { s.old.region ≡ r.now }
+    requires stays { s.old.end.gone ≡ false }
+    requires fresh { left_of s.old.end.put ≡ [] }
+    requires few { length (joined parts.now) < 2 ^ 64 }
+    ensures kept { s.new ≡ record s.old { end = s.new.end } }
+    ensures stays { s.new.end.gone ≡ false }
+    ensures fresh { left_of s.new.end.put ≡ [] }
+{
+    s.try_send_parts_whole(r, parts, true) == answer
+}
+
+/// Tries to send a message in parts. Says whether it was sent.
+fn sends_parts(r: &Region, s: &mut Sender, parts: &[&[u8]]) -> bool
+    requires here { s.old.region ≡ r.now }
+    requires stays { s.old.end.gone ≡ false }
+    requires fresh { left_of s.old.end.put ≡ [] }
+    requires few { length (joined parts.now) < 2 ^ 64 }
+    ensures kept { s.new ≡ record s.old { end = s.new.end } }
+    ensures stays { s.new.end.gone ≡ false }
+    ensures fresh { result ≡ true → left_of s.new.end.put ≡ [] }
+{
+    match s.try_send_parts(r, parts, true) {
+        SendAnswer::Sent => true,
+        _ => false,
+    }
+}
+
+/// Tries to receive. Says whether this is the answer.
+fn finds(r: &Region, q: &mut Receiver, answer: ReceiveAnswer) -> bool
+    requires here { q.old.region ≡ r.now }
+    requires stays { q.old.end.gone ≡ false }
+    ensures here { q.new.region ≡ r.now }
+    ensures ring { (q.new.end.ring ≡ q.old.end.ring) × (q.new.end.gone ≡ false) }
+{
+    q.try_receive(r) == answer
+}
+
+/// Tries to receive. Says whether this message came.
+fn receives(r: &Region, q: &mut Receiver, message: &[u8]) -> bool
+    requires here { q.old.region ≡ r.now }
+    requires stays { q.old.end.gone ≡ false }
+    ensures here { q.new.region ≡ r.now }
+    ensures ring { (q.new.end.ring ≡ q.old.end.ring) × (q.new.end.gone ≡ false) }
+{
+    finds(r, q, ReceiveAnswer::Message) && q.message() == message
+}
+
+/// The sender goes. Says whether its last message is still there, and nothing after it.
+fn is_last(r: &Region, s: &mut Sender, q: &mut Receiver, message: &[u8]) -> bool
+    requires here { (s.old.region ≡ r.now) × (q.old.region ≡ r.now) }
+    requires stays { q.old.end.gone ≡ false }
+{
+    s.detach(r);
+    receives(r, q, message) && finds(r, q, ReceiveAnswer::Detached)
+}
+
 /// A message of ten bytes goes through; of the next one word is stored; then it follows, the sender goes, and its
 /// message is still there.
 fn part_of_a_message(r: &Region, s: &mut Sender, q: &mut Receiver) -> bool
@@ -45,29 +167,11 @@ fn part_of_a_message(r: &Region, s: &mut Sender, q: &mut Receiver) -> bool
     requires stays { (s.old.end.gone ≡ false) × (q.old.end.gone ≡ false) }
     requires fresh { left_of s.old.end.put ≡ [] }
 {
-    let SendAnswer::Sent = s.try_send(r, b"abcdefgh12", true) else {
-        return false;
-    };
-    let SendAnswer::WouldBlock { stored: 1 } = s.try_send(r, b"xyz", true) else {
-        return false;
-    };
-    let ReceiveAnswer::Message = q.try_receive(r) else {
-        return false;
-    };
-    if q.message() != b"abcdefgh12".as_slice() {
-        return false;
-    }
-    let SendAnswer::Sent = s.try_send(r, b"xyz", true) else {
-        return false;
-    };
-    s.detach(r);
-    let ReceiveAnswer::Message = q.try_receive(r) else {
-        return false;
-    };
-    if q.message() != b"xyz".as_slice() {
-        return false;
-    }
-    q.try_receive(r) == ReceiveAnswer::Detached
+    sends(r, s, b"abcdefgh12", true)
+        && stores(r, s, b"xyz", 1)
+        && receives(r, q, b"abcdefgh12")
+        && sends(r, s, b"xyz", true)
+        && is_last(r, s, q, b"xyz")
 }
 
 /// A message that is longer than the ring and crosses the wrap of the counts.
@@ -77,29 +181,14 @@ fn longer_than_the_ring(r: &Region, s: &mut Sender, q: &mut Receiver) -> bool
     requires fresh { left_of s.old.end.put ≡ [] }
 {
     let long = b"0123456789012345678901234567890123456789";
-    let SendAnswer::WouldBlock { stored: 4 } = s.try_send(r, long, true) else {
-        return false;
-    };
-    let ReceiveAnswer::WouldBlock = q.try_receive(r) else {
-        return false;
-    };
-    let SendAnswer::Sent = s.try_send(r, long, true) else {
-        return false;
-    };
-    let ReceiveAnswer::Message = q.try_receive(r) else {
-        return false;
-    };
-    if q.message() != long.as_slice() {
-        return false;
-    }
     let too_long = b"01234567890123456789012345678901234567890";
-    let SendAnswer::TooLong { length: 41 } = s.try_send(r, too_long, true) else {
-        return false;
-    };
-    let SendAnswer::Sent = s.try_send(r, b"", true) else {
-        return false;
-    };
-    q.try_receive(r) == ReceiveAnswer::Message && q.message().is_empty()
+    stores(r, s, long, 4)
+        && finds(r, q, ReceiveAnswer::WouldBlock)
+        && sends(r, s, long, true)
+        && receives(r, q, long)
+        && is_too_long(r, s, too_long, 41)
+        && sends(r, s, b"", true)
+        && receives(r, q, b"")
 }
 
 /// A ring of four words: a message that has no room is left out, and goes when the receiver has made room; one whose
@@ -109,33 +198,14 @@ fn whole_or_not(r: &Region, s: &mut Sender, q: &mut Receiver) -> bool
     requires stays { (s.old.end.gone ≡ false) × (q.old.end.gone ≡ false) }
     requires fresh { left_of s.old.end.put ≡ [] }
 {
-    let SendAnswer::Sent = s.try_send_whole(r, b"abcdefgh12", false) else {
-        return false;
-    };
-    let SendAnswer::WouldBlock { stored: 0 } = s.try_send_whole(r, b"xyz", true) else {
-        return false;
-    };
     let five_words = b"0123456789012345678901234";
-    let SendAnswer::TooLong { length: 25 } = s.try_send_whole(r, five_words, true) else {
-        return false;
-    };
-    let ReceiveAnswer::Message = q.try_receive(r) else {
-        return false;
-    };
-    if q.message() != b"abcdefgh12".as_slice() {
-        return false;
-    }
-    let SendAnswer::Sent = s.try_send_whole(r, b"xyz", true) else {
-        return false;
-    };
-    let ReceiveAnswer::Message = q.try_receive(r) else {
-        return false;
-    };
-    if q.message() != b"xyz".as_slice() {
-        return false;
-    }
-    q.detach(r);
-    s.try_send_whole(r, b"xyz", true) == SendAnswer::Detached
+    answers_whole(r, s, b"abcdefgh12", false, SendAnswer::Sent)
+        && answers_whole(r, s, b"xyz", true, SendAnswer::WouldBlock { stored: 0 })
+        && answers_whole(r, s, five_words, true, SendAnswer::TooLong { length: 25 })
+        && receives(r, q, b"abcdefgh12")
+        && answers_whole(r, s, b"xyz", true, SendAnswer::Sent)
+        && receives(r, q, b"xyz")
+        && nobody_receives(r, s, q)
 }
 
 /// A message in three parts, of which one is empty, comes as one; it is put whole or not at all, too.
@@ -145,36 +215,26 @@ fn in_parts(r: &Region, s: &mut Sender, q: &mut Receiver) -> bool
     requires fresh { left_of s.old.end.put ≡ [] }
 {
     let three = [b"abc".as_slice(), b"".as_slice(), b"defgh12".as_slice()];
-    let SendAnswer::Sent = s.try_send_parts(r, &three, true) else {
-        return false;
-    };
     let two = [b"x".as_slice(), b"yz".as_slice()];
-    let SendAnswer::WouldBlock { stored: 0 } = s.try_send_parts_whole(r, &two, true) else {
-        return false;
-    };
-    let ReceiveAnswer::Message = q.try_receive(r) else {
-        return false;
-    };
-    if q.message() != b"abcdefgh12".as_slice() {
-        return false;
-    }
-    let SendAnswer::Sent = s.try_send_parts_whole(r, &two, true) else {
-        return false;
-    };
-    q.try_receive(r) == ReceiveAnswer::Message && q.message() == b"xyz".as_slice()
+    sends_parts(r, s, &three)
+        && answers_two_parts(r, s, &two, SendAnswer::WouldBlock { stored: 0 })
+        && receives(r, q, b"abcdefgh12")
+        && answers_two_parts(r, s, &two, SendAnswer::Sent)
+        && receives(r, q, b"xyz")
 }
 
-/// The receiver goes first.
+/// The receiver goes: a message that is put whole finds it gone, and one that is not.
 fn nobody_receives(r: &Region, s: &mut Sender, q: &mut Receiver) -> bool
     requires here { (s.old.region ≡ r.now) × (q.old.region ≡ r.now) }
     requires stays { (s.old.end.gone ≡ false) × (q.old.end.gone ≡ false) }
     requires fresh { left_of s.old.end.put ≡ [] }
 {
-    let ReceiveAnswer::WouldBlock = q.try_receive(r) else {
+    if !finds(r, q, ReceiveAnswer::WouldBlock) {
         return false;
-    };
+    }
     q.detach(r);
-    s.try_send(r, b"a", true) == SendAnswer::Detached
+    answers_whole(r, s, b"xyz", true, SendAnswer::Detached)
+        && s.try_send(r, b"a", true) == SendAnswer::Detached
 }
 
 /// Without flush, the receiver sees nothing until more than a quarter of the ring is unpublished.
@@ -183,22 +243,30 @@ fn by_quarters(r: &Region, s: &mut Sender, q: &mut Receiver) -> bool
     requires stays { (s.old.end.gone ≡ false) × (q.old.end.gone ≡ false) }
     requires fresh { left_of s.old.end.put ≡ [] }
 {
-    let SendAnswer::Sent = s.try_send(r, b"ab", false) else {
+    sends(r, s, b"ab", false)
+        && finds(r, q, ReceiveAnswer::WouldBlock)
+        && sends(r, s, b"ab", false)
+        && finds(r, q, ReceiveAnswer::WouldBlock)
+        && sends(r, s, b"ab", false)
+        && receives(r, q, b"ab")
+}
+
+/// Sends a message without flush, and then flushes. Says whether it is there after a meeting.
+fn is_there(r: &Region, s: &mut Sender, q: &mut Receiver, message: &[u8]) -> bool
+    requires here { (s.old.region ≡ r.now) × (q.old.region ≡ r.now) }
+    requires one_ring { s.old.end.ring ≡ q.old.end.ring }
+    requires stays { (s.old.end.gone ≡ false) × (q.old.end.gone ≡ false) }
+    requires fresh { left_of s.old.end.put ≡ [] }
+    ensures sender { (s.new.region ≡ r.now) × (s.new.bytes ≡ s.old.bytes) × (s.new.end.ring ≡ s.old.end.ring) × (s.new.end.gone ≡ false) }
+    ensures receiver { (q.new.region ≡ r.now) × (q.new.end.ring ≡ q.old.end.ring) × (q.new.end.gone ≡ false) }
+    ensures fresh { result ≡ true → left_of s.new.end.put ≡ [] }
+{
+    if !sends(r, s, message, false) {
         return false;
-    };
-    let ReceiveAnswer::WouldBlock = q.try_receive(r) else {
-        return false;
-    };
-    let SendAnswer::Sent = s.try_send(r, b"ab", false) else {
-        return false;
-    };
-    let ReceiveAnswer::WouldBlock = q.try_receive(r) else {
-        return false;
-    };
-    let SendAnswer::Sent = s.try_send(r, b"ab", false) else {
-        return false;
-    };
-    q.try_receive(r) == ReceiveAnswer::Message && q.message() == b"ab".as_slice()
+    }
+    s.flush(r);
+    meet(s, q, r);
+    receives(r, q, message)
 }
 
 /// After a meeting with a receiver that is gone, a send finds it gone.
@@ -225,28 +293,15 @@ fn there_and_home(alloc: Global, r: &Region, mut s: Sender, mut q: Receiver) -> 
     requires room { 56 ≤ s.bytes }
     requires small { 2 ≤ s.end.ring.max }
 {
-    let SendAnswer::Sent = s.try_send(r, b"ab", false) else {
-        return false;
-    };
-    s.flush(r);
-    meet(&mut s, &mut q, r);
-    let ReceiveAnswer::Message = q.try_receive(r) else {
-        return false;
-    };
-    if q.message() != b"ab".as_slice() {
+    if !is_ring_size(4) || !is_there(r, &mut s, &mut q, b"ab") {
         return false;
     }
     q.detach(r);
-    if !finds_it_gone(r, &mut s, &mut q, b"c") {
-        return false;
-    }
+    let is_gone = finds_it_gone(r, &mut s, &mut q, b"c");
     s.detach(r);
-    if !is_ring_size(4) {
-        return false;
-    }
     let chunk = home(s, q, r).into_chunk(r);
     let (tx, rx) = Ring::create(r, chunk, 4, 0, 8);
-    attach(alloc, tx, rx).is_ok()
+    is_gone && attach(alloc, tx, rx).is_ok()
 }
 
 /// The bytes of the message with this number, which has 0 to 600 of them.
@@ -513,7 +568,7 @@ fn counts_are_published_by_quarters(rt: HostRuntime) {
 #[test]
 fn a_stream_is_whole_and_in_order(rt: HostRuntime) {
     let (r, s, q) = new_queue(rt.alloc(), 64, 0, 600).expect(&rt, "memory");
-    assert!(rt; stream(&rt, &r, s, q, 100000));
+    assert!(rt; stream(&rt, &r, s, q, 20000));
 }
 
 #[test]

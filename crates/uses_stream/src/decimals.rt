@@ -1,7 +1,6 @@
 //! Decimals: worked rows of numbers with places, whose values were computed apart from the program.
 
-use crate::windows::answered;
-use par_io::{MemSink, MemSource};
+use crate::windows::answered_over;
 use std::alloc::{AllocError, Global};
 use std::sync::Wait;
 use std::test::Fail;
@@ -129,10 +128,7 @@ pub(crate) fn is_answered<R: Threads + Wait + Sync>(
     let (words, input, status, text) = row;
     for workers in ["0", "2"] {
         let words = format!(in alloc; "{words} --workers {workers}")?;
-        let bytes = Vec::from_slice(alloc, input.as_bytes())?;
-        let source = MemSource::new(bytes, 3, Vec::new(alloc));
-        let out = MemSink::new(alloc, 7, 1000, Vec::new(alloc))?;
-        let given = answered(rt, alloc, words.as_str(), source, out, 16)?;
+        let given = answered_over(rt, alloc, words.as_str(), input.as_bytes(), 16)?;
         let is_written = if status == 0 {
             given.out.as_slice() == text.as_bytes()
         } else {

@@ -1,6 +1,6 @@
 //! Reads and writes that fail, with windows of five bytes that are read three bytes a call.
 
-use crate::windows::answered;
+use crate::windows::{Answer, answered};
 use par_io::{MemSink, MemSource};
 use std::alloc::{AllocError, Global};
 use std::sync::Wait;
@@ -10,8 +10,22 @@ use std::thread::Threads;
 /// The status, and what was written: the table, and the line after the program's name.
 type Wanted<'a> = (u8, &'a [u8], &'a [u8]);
 
-/// Whether the answer is this one if the read or the write with one of these numbers fails, for each of several numbers
-/// of workers.
+/// What is answered if the read or the write with one of these numbers fails.
+fn answered_failing<R: Threads + Wait + Sync>(
+    rt: &R,
+    alloc: Global,
+    words: &str,
+    input: &str,
+    read: u64,
+    write: u64,
+) -> Result<Answer, AllocError> {
+    let bytes = Vec::from_slice(alloc, input.as_bytes())?;
+    let source = MemSource::new(bytes, 3, Vec::from_slice(alloc, &[read])?);
+    let out = MemSink::new(alloc, 5, 100, Vec::from_slice(alloc, &[write])?)?;
+    answered(rt, alloc, words, source, out, 5)
+}
+
+/// Whether that is this, for each of several numbers of workers.
 fn is_answered<R: Threads + Wait + Sync>(
     rt: &R,
     alloc: Global,
@@ -20,13 +34,10 @@ fn is_answered<R: Threads + Wait + Sync>(
     write: u64,
     wanted: Wanted<'_>,
 ) -> Result<bool, AllocError> {
-    for workers in ["0", "1", "3"] {
+    let (status, table, line) = wanted;
+    for workers in [0, 1, 3u32] {
         let words = format!(in alloc; "--group g --agg count,sum:v --workers {workers}")?;
-        let bytes = Vec::from_slice(alloc, input.as_bytes())?;
-        let source = MemSource::new(bytes, 3, Vec::from_slice(alloc, &[read])?);
-        let out = MemSink::new(alloc, 5, 100, Vec::from_slice(alloc, &[write])?)?;
-        let given = answered(rt, alloc, words.as_str(), source, out, 5)?;
-        let (status, table, line) = wanted;
+        let given = answered_failing(rt, alloc, words.as_str(), input, read, write)?;
         if given.status != status || given.out.as_slice() != table || given.err.as_slice() != line {
             return Ok(false);
         }

@@ -1,7 +1,7 @@
 //! Rows that are left out: worked rows, whose tables and lines were made by hand.
 
 use crate::decimals::USAGE;
-use crate::windows::{Answer, after_name, sink, source_of, words_of};
+use crate::windows::{Answer, answer_of, sink, source_of, words_of};
 use good_stream::good_table;
 use par_stream::{Separated, Untold};
 use std::alloc::{AllocError, Global};
@@ -137,11 +137,7 @@ fn answered<R: Threads + Wait + Sync>(
         size,
         &mut Untold,
     );
-    Ok(Answer {
-        status,
-        out: Vec::from_slice(alloc, out.written())?,
-        err: after_name(alloc, err.written())?,
-    })
+    answer_of(alloc, status, &out, &err)
 }
 
 /// Whether the answer to a row is the one that it has, for each of several numbers of workers.

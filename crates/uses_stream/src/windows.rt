@@ -35,17 +35,36 @@ pub(crate) fn sink(alloc: Global) -> Result<MemSink, AllocError> {
     MemSink::new(alloc, 5, 10_000, Vec::new(alloc))
 }
 
-/// The status and the table of the query over all records at once.
-fn wanted(alloc: Global, words: &str, input: &[u8]) -> Result<(u8, Vec<u8>), AllocError> {
+/// What windows answered, but for the program's name in the line.
+pub(crate) fn answer_of(
+    alloc: Global,
+    status: u8,
+    out: &MemSink,
+    err: &MemSink,
+) -> Result<Answer, AllocError> {
+    Ok(Answer {
+        status,
+        out: Vec::from_slice(alloc, out.written())?,
+        err: after_name(alloc, err.written())?,
+    })
+}
+
+/// Whether the query over all records at once has this status and this table.
+fn is_wanted(
+    alloc: Global,
+    words: &str,
+    input: &[u8],
+    answer: &Answer,
+) -> Result<bool, AllocError> {
     let words = words_of(alloc, words)?;
     let mut source = source_of(alloc, input)?;
     let mut out = sink(alloc)?;
     let mut err = sink(alloc)?;
     let status = aggregate_alone(alloc, words.as_slice(), &mut source, &mut out, &mut err);
-    Ok((status, Vec::from_slice(alloc, out.written())?))
+    Ok(answer.status == status && answer.out.as_slice() == out.written())
 }
 
-/// What the windows of a source answer, but for the program's name in the line.
+/// What the windows of a source answer.
 pub(crate) fn answered<R: Threads + Wait + Sync>(
     rt: &R,
     alloc: Global,
@@ -67,11 +86,38 @@ pub(crate) fn answered<R: Threads + Wait + Sync>(
         size,
         &mut Untold,
     );
-    Ok(Answer {
-        status,
-        out: Vec::from_slice(alloc, out.written())?,
-        err: after_name(alloc, err.written())?,
-    })
+    answer_of(alloc, status, &out, &err)
+}
+
+/// What windows of this size answer over some bytes.
+pub(crate) fn answered_over<R: Threads + Wait + Sync>(
+    rt: &R,
+    alloc: Global,
+    words: &str,
+    input: &[u8],
+    size: usize,
+) -> Result<Answer, AllocError> {
+    let source = source_of(alloc, input)?;
+    let out = sink(alloc)?;
+    answered(rt, alloc, words, source, out, size)
+}
+
+/// Whether this many workers answer so, by windows of several sizes.
+fn is_same<R: Threads + Wait + Sync>(
+    rt: &R,
+    alloc: Global,
+    plan: &str,
+    input: &[u8],
+    workers: u32,
+    whole: &Answer,
+) -> Result<bool, AllocError> {
+    let words = format!(in alloc; "{plan} --workers {workers}")?;
+    for size in [1usize, 2, 3, 5, 8, 100] {
+        if answered_over(rt, alloc, words.as_str(), input, size)? != *whole {
+            return Ok(false);
+        }
+    }
+    Ok(true)
 }
 
 /// A line after the name of its program, which has nine letters.
@@ -109,20 +155,14 @@ fn each_seam(rt: HostRuntime) -> Result<(), Fail> {
     let alloc = rt.alloc();
     for input in INPUTS {
         for plan in PLANS {
-            let (status, table) = wanted(alloc, plan, input.as_bytes())?;
-            let source = source_of(alloc, input.as_bytes())?;
-            let whole = answered(&rt, alloc, plan, source, sink(alloc)?, 1_000)?;
-            assert!(rt;
-                whole.status == status && whole.out == table,
-                "{plan} of {input}"
-            );
-            for workers in ["0", "1", "3"] {
-                let words = format!(in alloc; "{plan} --workers {workers}")?;
-                for size in [1usize, 2, 3, 5, 8, 100] {
-                    let source = source_of(alloc, input.as_bytes())?;
-                    let given = answered(&rt, alloc, words.as_str(), source, sink(alloc)?, size)?;
-                    assert!(rt; given == whole, "{words} of {input} by {size}");
-                }
+            let bytes = input.as_bytes();
+            let whole = answered_over(&rt, alloc, plan, bytes, 1_000)?;
+            assert!(rt; is_wanted(alloc, plan, bytes, &whole)?, "{plan} of {input}");
+            for workers in [0, 1, 3u32] {
+                assert!(rt;
+                    is_same(&rt, alloc, plan, bytes, workers, &whole)?,
+                    "{plan} of {input} by {workers} workers"
+                );
             }
         }
     }

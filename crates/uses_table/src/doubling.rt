@@ -68,31 +68,23 @@ const MOVES: [(u32, u64); 11] = [
     (17, 769),
 ];
 
+/// Whether a thousand keys that are there are put again, listed, read and deleted.
+fn goes_round(numbers: &mut Growing, alloc: Global, keys: &[u64]) -> Result<bool, AllocError> {
+    let is_put = are_answered(numbers, keys, Turn::PutAgain);
+    let listed = numbers.list(alloc)?.len();
+    Ok(is_put && listed == 1000 && are_answered(numbers, keys, Turn::Take))
+}
+
+/// It grows when it has three quarters as many keys as buckets and one more.
 #[test]
-fn it_grows_with_three_quarters_as_many_keys_as_buckets_and_one_more(
-    rt: HostRuntime,
-) -> Result<(), Fail> {
+fn a_partition_grows_and_is_emptied(rt: HostRuntime) -> Result<(), Fail> {
     let keys = keys_of(rt.alloc(), 77, 1000)?;
     let mut numbers = Growing::new(rt.alloc())?;
     assert!(rt; are_answered(&mut numbers, keys.as_slice(), Turn::Put));
     assert!(rt; numbers.moves() == MOVES.as_slice());
     assert!(rt; numbers.partition().size() == 18 && numbers.partition().count() == 1000);
-    Ok(())
-}
-
-/// Whether a thousand keys are put, put again, listed, read and deleted.
-fn goes_round(numbers: &mut Growing, alloc: Global, keys: &[u64]) -> Result<bool, AllocError> {
-    let is_put = are_answered(numbers, keys, Turn::Put)
-        && are_answered(numbers, keys, Turn::PutAgain);
-    let listed = numbers.list(alloc)?.len();
-    Ok(is_put && listed == 1000 && are_answered(numbers, keys, Turn::Take))
-}
-
-#[test]
-fn a_thousand_keys_are_put_read_listed_and_deleted(rt: HostRuntime) -> Result<(), Fail> {
-    let keys = keys_of(rt.alloc(), 5, 1000)?;
-    let mut numbers = Growing::new(rt.alloc())?;
-    assert!(rt; goes_round(&mut numbers, rt.alloc(), keys.as_slice())?);
-    assert!(rt; numbers.partition().count() == 0 && numbers.moves().len() > 3);
+    let round = goes_round(&mut numbers, rt.alloc(), keys.as_slice());
+    assert!(rt; matches!(round, Ok(true)));
+    assert!(rt; numbers.partition().count() == 0);
     Ok(())
 }

@@ -14,7 +14,6 @@ use std::sync::Wait;
 use std::test::Fail;
 
 /// A table in its own region, and the seat of its one participant.
-#[tactic(auto, using(word_map::proofs::Maps::answers, std::proofs::lemmas::Bool::Decides::nat_tests))]
 fn table_for_one<R: Wait>(
     rt: &R,
     alloc: Global,

@@ -1,6 +1,6 @@
-//! Callers of `dshash_parts` and `dshash_scan`: a cache of texts under names in the shared hash table, and two threads
-//! that share it; and leases under its keys, which run out round after round of a clock. The crate also has the tests of
-//! the crates of the table and of what is in its cells. No other crate depends on it.
+//! Callers of `dshash_parts` and `dshash_scan`: numbers that two threads put into the shared hash table, a cache of texts
+//! under names whose owners alone may change them, and leases that run out round after round of a clock. The crate also
+//! has the tests of the crates of the table and of what is in its cells. No other crate depends on it.
 
 #![tactic(auto)]
 
@@ -17,6 +17,8 @@ mod lease;
 mod numbers;
 #[cfg(test)]
 mod objects;
+#[cfg(test)]
+mod one;
 #[cfg(test)]
 mod parts;
 #[cfg(test)]

@@ -1,81 +1,23 @@
 //! A table of numbers under keys of one word, which two threads fill, and which is emptied again.
 
-ghost use Rattle.std.specs.Prelude.{◌≡◌, ℕ, ◌+◌, ◌^◌, ◌<◌, ◌≤◌, IfOk};
+ghost use Rattle.std.specs.Prelude.{◌≡◌, ◌+◌, ◌^◌, ◌<◌, ◌≤◌, IfOk};
 ghost use Rattle.std.specs.FinMap as fin;
 ghost use Rattle.lock_book.specs.Shown.{number_of, seen_of};
 ghost use Rattle.dsa_area.specs.Shown.{AreAll as AreAllOfArea, IsArea, callers_of as area_callers, number_of as area_number};
 ghost use Rattle.dshash_parts.specs.Tables.{map_at};
 ghost use Rattle.dshash_parts.specs.Uses.{IsAtHome};
-ghost use Rattle.dshash_parts.specs.Ending.{IsOf, left_of};
 
 use dsa_area::{Area, AreaPass, area_words};
-use dshash_core::{CellObject, Entry};
-use dshash_parts::{ClosedTable, DsPass, Dshash};
+use dshash_numbers::{Number, NumberCall};
+use dshash_parts::{DsPass, Dshash};
 use region_words::Region;
 use std::alloc::{AllocError, Global};
 use std::sync::Wait;
 
 mod two;
 
-/// A number under a key.
-pub struct Number;
-
-#[derive(Clone, Copy)]
-pub enum NumberCall {
-    Put(u64),
-    Get,
-    Delete,
-}
-
-impl CellObject for Number {
-    ghost use Rattle.std.specs.Prelude.{ℕ, ◌<◌, ◌^◌, [], ◌∷◌, Option, Some, None, slice_index, refl};
-    ghost use Rattle.uses_table.specs.declared.parts.NumberCall.TheVariants.{Put, Get, Delete};
-
-    const VALUE_WORDS: usize = 1;
-
-    type State = u64;
-
-    type Call = NumberCall;
-
-    type Reply = Option<u64>;
-
-    ghost VALUE_WORDS = { 1 };
-
-    ghost stepped = { λ s call. (elim call as (λ _. Option ℕ) [ Put n ↦ Some n | Get ↦ s | Delete ↦ None ], s) };
-
-    ghost is_value = { λ s. s < 2 ^ 64 };
-
-    ghost encoded = { λ s. s ∷ [] };
-
-    ghost decoded = { λ words. slice_index words 0 };
-
-    ghost reads_back = { λ s h. refl };
-
-    fn step(state: Option<&u64>, call: &NumberCall) -> (Option<u64>, Option<u64>) {
-        let next = match call {
-            NumberCall::Put(n) => Some(*n),
-            NumberCall::Get => state.copied(),
-            NumberCall::Delete => None,
-        };
-        (next, state.copied())
-    }
-
-    fn reads(_call: &NumberCall) -> bool {
-        false
-    }
-
-    fn encode(state: &u64, out: &mut [u64]) {
-        out[0] = *state;
-    }
-
-    fn decode(words: &[u64]) -> u64 {
-        words[0]
-    }
-}
-
 /// A region with an area of this many pages after its first word, and a pass for each caller.
-#[tactic(auto, using(word_map::proofs::Maps::answers, std::proofs::lemmas::Bool::Decides::nat_tests))]
-fn area_for(
+pub(crate) fn area_for(
     alloc: Global,
     pages: u32,
     callers: u32,
@@ -222,35 +164,4 @@ fn drain_all<R: Wait>(
         taken = drain(rt, alloc, table, r, area, pass, apass, partition)?.saturating_add(taken);
     }
     Ok(taken)
-}
-
-/// How many of these entries have the key as their number.
-fn right_of(entries: Vec<Entry<Number>>) -> u64 {
-    let mut right = 0u64;
-    for entry in entries {
-        if entry.key.words().first() == Some(&entry.state) {
-            right = right.saturating_add(1);
-        }
-    }
-    right
-}
-
-/// The keys and numbers of a closed table's partitions: how many there are, how many of them are right, and the largest
-/// size.
-fn rest_of(
-    alloc: Global,
-    r: &Region,
-    mut closed: ClosedTable<Number>,
-) -> Result<(u64, u64, u32), AllocError>
-    requires parts { (t : _) × IsOf r.now t closed }
-{
-    let mut keys = 0u64;
-    let mut right = 0u64;
-    let mut largest = 0;
-    while let Some(mut partition) = closed.take_last() {
-        largest = largest.max(partition.size());
-        keys = partition.count().saturating_add(keys);
-        right = right_of(partition.list(alloc, r)?).saturating_add(right);
-    }
-    Ok((keys, right, largest))
 }

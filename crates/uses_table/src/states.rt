@@ -1,7 +1,5 @@
 //! What no clause says: the layout as it is written out by hand, and the table's size of an item with such a cell.
 
-ghost use Rattle.std.specs.Prelude.{◌≡◌, length};
-
 mod table;
 
 use agg_cell::{AggObject, STATE_WORDS};
@@ -25,7 +23,7 @@ fn two_rows() -> AggState {
     let mut slots = [NO_VALUES; 8];
     slots[0] = SlotState {
         count: 2,
-        sum: i128::from(i64::MIN) + 7,
+        sum: -9_223_372_036_854_775_801,
         least: i64::MIN,
         greatest: 7,
     };
@@ -47,37 +45,5 @@ fn words_of_a_state(rt: HostRuntime) -> Result<(), Fail> {
     assert!(rt; words[36..] == [1, u64::MAX, u64::MAX >> 1, 5, u64::MAX >> 1]);
     assert!(rt; AggObject::decode(&words) == two_rows());
     assert_eq!(rt; item_bytes(32, STATE_WORDS as u32), 600);
-    Ok(())
-}
-
-/// Two calls of one key, as the table makes them: a cell is made and added to, each time through its words.
-fn called<O: CellObject>(words: &mut [u64], first: &O::Call, second: &O::Call) -> Option<O::State>
-    requires { length words.old ≡ O.VALUE_WORDS }
-{
-    let nothing: Option<O::State> = None;
-    let (made, _reply) = O::step(nothing.as_ref(), first);
-    O::encode(&made?, words);
-    let before = O::decode(words);
-    let (added, _reply) = O::step(Some(&before), second);
-    O::encode(&added?, words);
-    Some(O::decode(words))
-}
-
-#[test]
-fn a_cell_is_the_state_of_all_that_was_called(rt: HostRuntime) -> Result<(), Fail> {
-    let mut words = [0u64; STATE_WORDS];
-    let state = called::<AggObject>(&mut words, &one_row(), &two_rows()).ok_or("no cell")?;
-    assert_eq!(rt; state.rows, 3);
-    assert!(rt;
-        state.slots[0]
-            == SlotState {
-                count: 3,
-                sum: i128::from(i64::MIN) + 6,
-                least: i64::MIN,
-                greatest: 7
-            }
-    );
-    assert!(rt; state.slots[7] == two_rows().slots[7]);
-    assert!(rt; state.slots[1] == NO_VALUES);
     Ok(())
 }

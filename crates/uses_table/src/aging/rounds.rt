@@ -9,7 +9,7 @@ ghost use Rattle.uses_table.specs.Ticks.{AreLater};
 
 use super::tick_one;
 use crate::lease::{Lease, LeaseCall};
-use crate::numbers::area_for;
+use crate::one::table_for_one;
 use dsa_area::{Area, AreaPass, NoSpace};
 use dshash_parts::{DsPass, Dshash};
 use dshash_scan::count_all;
@@ -40,25 +40,6 @@ pub fn tick_all<R: Wait>(
         gone += u128::from(round.gone);
     }
     Ok(gone)
-}
-
-/// A table of leases under keys of one word for one caller, in an area of its own, and the caller's two passes.
-fn leases_for_one<R: Wait>(
-    rt: &R,
-    alloc: Global,
-    pages: u32,
-) -> Result<(Region, Area, Dshash<Lease>, DsPass<Lease>, AreaPass), Fail>
-    requires few { pages ≤ 65536 }
-    ensures home { IfOk result (λ a. IsAtHome a.0 a.1 a.2 1 a.3 a.4) }
-{
-    let (region, area, mut apass) = area_for(alloc, pages)?;
-    let Ok((leases, mut passes)) = Dshash::new(rt, alloc, &region, &area, &mut apass, 1, 1) else {
-        return Err(Fail::new("no table"));
-    };
-    let Some(pass) = passes.pop() else {
-        unreachable!()
-    };
-    Ok((region, area, leases, pass, apass))
 }
 
 /// Grants a key a lease of so many rounds. What was there before.
@@ -123,7 +104,7 @@ fn left_of<R: Wait>(
 
 #[test]
 fn leases_run_out(rt: HostRuntime) -> Result<(), Fail> {
-    let (region, area, leases, mut pass, mut apass) = leases_for_one(&rt, rt.alloc(), 64)?;
+    let (region, area, leases, mut pass, mut apass) = table_for_one(&rt, rt.alloc(), 64, 1)?;
     let rounds = [0, 3, 1, 0, 2, 1];
     let granted = grant_all(&rt, &leases, &region, &area, &mut pass, &mut apass, &rounds);
     assert_eq!(rt; granted, 6);
@@ -135,7 +116,8 @@ fn leases_run_out(rt: HostRuntime) -> Result<(), Fail> {
         &area,
         &mut pass,
         &mut apass,
-    )?;
+    )
+    .expect(&rt, "memory");
     assert_eq!(rt; gone, 2);
     let left = left_of(&rt, &leases, &region, &area, &mut pass, &apass);
     assert!(rt; left == [None, Some(2), Some(0), None, Some(1), Some(0)]);
@@ -157,7 +139,8 @@ fn leases_run_out(rt: HostRuntime) -> Result<(), Fail> {
         &area,
         &mut pass,
         &mut apass,
-    )?;
+    )
+    .expect(&rt, "memory");
     assert_eq!(rt; gone, 1);
     let left = left_of(&rt, &leases, &region, &area, &mut pass, &apass);
     assert!(rt; left == [None, Some(1), Some(0), None, Some(0), None]);
@@ -169,7 +152,8 @@ fn leases_run_out(rt: HostRuntime) -> Result<(), Fail> {
         &area,
         &mut pass,
         &mut apass,
-    )?;
+    )
+    .expect(&rt, "memory");
     assert_eq!(rt; (gone, count_all(&rt, &leases, &region, &mut pass)), (2, 1));
     Ok(())
 }

@@ -6,8 +6,9 @@ ghost use Rattle.lock_book.specs.Shown.{number_of};
 ghost use Rattle.dshash_parts.specs.Tables.{callers_of};
 ghost use Rattle.dshash_parts.specs.Uses.{IsAtHome};
 
-use super::{Number, area_for, drain_all, put_and_get};
+use super::{area_for, drain_all, put_and_get};
 use dsa_area::{Area, AreaPass};
+use dshash_numbers::Number;
 use dshash_parts::{DsPass, Dshash};
 use lock_book::two_of;
 use region_words::Region;
@@ -117,7 +118,8 @@ fn two_threads_while_the_table_doubles(rt: HostRuntime) -> Result<(), Fail> {
         &area,
         &mut pass,
         &mut apass,
-    )?;
+    )
+    .expect(&rt, "memory");
     assert_eq!(rt; taken, 1000);
     let left = drain_all(
         &rt,
@@ -127,7 +129,8 @@ fn two_threads_while_the_table_doubles(rt: HostRuntime) -> Result<(), Fail> {
         &area,
         &mut pass,
         &mut apass,
-    )?;
+    )
+    .expect(&rt, "memory");
     assert_eq!(rt; left, 0);
     Ok(())
 }

@@ -1,15 +1,16 @@
 //! A table of groups: what is called under a key twice stands there once, combined.
 
-ghost use Rattle.std.specs.Prelude.{◌≡◌, ◌≤◌, ◌++◌, ◌∷◌, [], ℕ, List, IfOk, OnOk, length};
+ghost use Rattle.std.specs.Prelude.{◌≡◌, ◌≤◌, ◌++◌, ◌∷◌, [], ℕ, List, OnOk, length};
 ghost use Rattle.lock_book.specs.Shown.{seen_of};
-ghost use Rattle.dsa_area.specs.Shown.{AreAll as AreAllOfArea, Belongs as AreaBelongs, IsArea, callers_of as area_callers};
+ghost use Rattle.dsa_area.specs.Shown.{Belongs as AreaBelongs, IsArea};
 ghost use Rattle.dshash_parts.specs.Tables.{Belongs, IsHome, IsTable, key_words_of};
 ghost use Rattle.par_model.specs.declared.state.AggState.{AggState};
 ghost use Rattle.agg_cell.specs.Called.{all_combined, called_in, stands};
 
 use super::{one_row, two_rows};
+use crate::one::table_for_one;
 use agg_cell::AggObject;
-use dsa_area::{Area, AreaPass, NoSpace, area_words};
+use dsa_area::{Area, AreaPass, NoSpace};
 use dshash_core::Entry;
 use dshash_parts::{DsPass, Dshash};
 use par_model::AggState;
@@ -17,48 +18,6 @@ use region_words::Region;
 use std::alloc::{AllocError, Global};
 use std::sync::Wait;
 use std::test::Fail;
-
-/// A region with an area of this many pages, and the pass of its one caller.
-#[tactic(auto, using(word_map::proofs::Maps::answers, std::proofs::lemmas::Bool::Decides::nat_tests))]
-fn area_for_one(alloc: Global, pages: u32) -> Result<(Region, Area, Vec<AreaPass>), AllocError>
-    requires few { pages ≤ 65536 }
-    ensures area { IfOk result (λ a. IsArea a.0 a.1) }
-    ensures callers { IfOk result (λ a. area_callers a.1 ≡ 1) }
-    ensures passes { IfOk result (λ a. AreAllOfArea a.1 a.2.items) }
-{
-    let words = area_words(pages);
-    let (region, mut part) = Region::new(alloc, words as usize + 1)?;
-    let chunk = part.split_chunk(&region, 1, words);
-    let (area, passes) = Area::new(alloc, &region, chunk, pages, 1)?;
-    Ok((region, area, passes))
-}
-
-/// A table of groups under keys of one word for one caller, in an area of its own, and the caller's two passes.
-fn table_for_one<R: Wait>(
-    rt: &R,
-    alloc: Global,
-    pages: u32,
-) -> Result<(Region, Area, Dshash<AggObject>, AreaPass, DsPass<AggObject>), Fail>
-    requires few { pages ≤ 65536 }
-    ensures area { IfOk result (λ a. IsArea a.0 a.1) }
-    ensures area_own { IfOk result (λ a. AreaBelongs a.1 a.3) }
-    ensures table { IfOk result (λ a. IsTable a.0 a.2) }
-    ensures home { IfOk result (λ a. IsHome a.1 a.2) }
-    ensures keys { IfOk result (λ a. key_words_of a.2 ≡ 1) }
-    ensures own { IfOk result (λ a. Belongs a.2 a.4) }
-{
-    let (region, area, mut apasses) = area_for_one(alloc, pages)?;
-    let Some(mut apass) = apasses.pop() else {
-        unreachable!()
-    };
-    let Ok((table, mut passes)) = Dshash::new(rt, alloc, &region, &area, &mut apass, 1, 1) else {
-        return Err(Fail::new("no table"));
-    };
-    let Some(pass) = passes.pop() else {
-        unreachable!()
-    };
-    Ok((region, area, table, apass, pass))
-}
 
 /// Calls a key with a state. What stands under each key then, as far as the pass has seen, is all that it was called
 /// with; of a call that had room, this state is the last.
@@ -143,14 +102,14 @@ fn listed<R: Wait>(
 
 #[test]
 fn a_table_adds_up_what_is_called(rt: HostRuntime) -> Result<(), Fail> {
-    let (region, area, table, mut apass, mut pass) = table_for_one(&rt, rt.alloc(), 64)?;
+    let (region, area, table, mut pass, mut apass) = table_for_one(&rt, rt.alloc(), 64, 1)?;
     let (one, two) = (one_row(), two_rows());
     let first = call_all(&rt, &table, &region, &area, &mut pass, &mut apass, 60, &one);
     let second = call_all(&rt, &table, &region, &area, &mut pass, &mut apass, 40, &two);
     let mut both = one;
     partial_agg::combine(&mut both, &two);
-    let added = listed(&rt, rt.alloc(), &table, &region, &mut pass, &both)?;
-    let alone = listed(&rt, rt.alloc(), &table, &region, &mut pass, &one)?;
+    let added = listed(&rt, rt.alloc(), &table, &region, &mut pass, &both).expect(&rt, "memory");
+    let alone = listed(&rt, rt.alloc(), &table, &region, &mut pass, &one).expect(&rt, "memory");
     assert_eq!(rt; (first, second, added, alone), (60, 40, 40, 20));
     Ok(())
 }

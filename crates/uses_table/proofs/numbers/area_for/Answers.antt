@@ -4,5 +4,5 @@ use Rattle.uses_table.proofs.numbers.area_for.Goals as goal
 
 pub returns-clause-own : goal.returns-clause-own
 returns-clause-own c =
-    let s = c.in_ok-area.ensures in
+    let s = c.in_ok-region.ensures in
     s.passes.each 0 c.in-Some.pass (only _ _ _ c.in-Some.ensures.items (s.passes.count ∙ s.callers))

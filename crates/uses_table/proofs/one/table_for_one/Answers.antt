@@ -1,6 +1,6 @@
 use Rattle.std.proofs.Common.{◌∙◌}
 use Rattle.lock_book.proofs.Uses.{only}
-use Rattle.uses_table.proofs.aging.rounds.leases_for_one.Goals as goal
+use Rattle.uses_table.proofs.one.table_for_one.Goals as goal
 
 pub returns : goal.returns
 returns g c =

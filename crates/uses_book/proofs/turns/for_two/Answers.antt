@@ -1,6 +1,6 @@
 use Rattle.std.proofs.Common.{◌∙◌}
 use Rattle.lock_book.proofs.Uses.{both}
-use Rattle.uses_book.proofs.barriers.for_two.Goals as goal
+use Rattle.uses_book.proofs.turns.for_two.Goals as goal
 
 pub returns-clause-zero : goal.returns-clause-zero
 returns-clause-zero c =
