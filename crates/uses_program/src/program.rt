@@ -10,7 +10,6 @@ use par_gather::{Gate, OpenGate, Ran, aggregate_alone, pargather};
 use par_io::{MemSink, MemSource};
 use par_stream::{Separated, Untold, WINDOW_BYTES, stream_table};
 use std::alloc::{AllocError, Global};
-use std::mem;
 use std::process::Abort;
 use std::sync::Wait;
 use std::test::Fail;
@@ -215,8 +214,7 @@ fn words_of(alloc: Global, text: &str) -> Result<Vec<String>, AllocError> {
     Ok(words)
 }
 
-/// What `pargather` answers. Only here is what the run brings home looked at; it is not dropped, since the drop of each of
-/// its parts would be proved in this crate too.
+/// What `pargather` answers. Only here is what the run brings home looked at.
 fn ask<G: Gate + Sync, R: Threads + Wait + Sync>(
     rt: &R,
     alloc: Global,
@@ -239,7 +237,6 @@ fn ask<G: Gate + Sync, R: Threads + Wait + Sync>(
         &mut ran,
     );
     let said = Said::of(&ran);
-    mem::forget(ran);
     Ok(Answered {
         status,
         streams,
