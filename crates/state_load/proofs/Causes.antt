@@ -1,7 +1,7 @@
 -- One file: what is read of it, and why it is not taken.
 use Rattle.std.proofs.Common.{◌≡◌, ◌++◌, ◌∙◌, ℕ, List, ap, length, subst, sym}
 use Rattle.partial_agg.specs.Groups.{GroupsByKey}
-use Rattle.state_blocks.specs.Blocks.{Group}
+use Rattle.state_blocks.specs.Blocks.{Group, blocks_bytes}
 use Rattle.state_body.specs.Body.{IsBody, body_bytes, groups_of}
 use Rattle.state_front.specs.Front.{front_bytes}
 use Rattle.state_front.specs.declared.front.FrontRead.{FrontRead}
@@ -9,9 +9,10 @@ use Rattle.state_head.specs.Head.{Preface, Subject, preface_of}
 use Rattle.state_head.specs.Words.{Keys}
 use Rattle.state_head.specs.declared.cover.Stretch.{Stretch}
 use Rattle.state_load.specs.Faults.{CannotGoOn, IsNoAlike, IsNoPart}
-use Rattle.state_load.specs.Loading.{IsAlikeFront, IsPart}
+use Rattle.state_load.specs.Loading.{IsAlikeFront, IsLookedAt, IsPart}
 use Rattle.state_load.specs.declared.loading.LoadCause.{LoadCause}
 use Rattle.state_load.specs.declared.loading.LoadCause.TheVariants as cause
+use Rattle.state_load.specs.declared.look.LookedAt.{LookedAt}
 use Rattle.state_load.proofs.Loads.{file_is}
 use Rattle.state_whole.specs.Adding.{sum_with}
 use Rattle.state_whole.specs.Alike.{DiffersIn, RangesDiffer}
@@ -75,6 +76,24 @@ is_part shape subject keys m cover bytes found after blocks sum read groups is s
       read.is ∙ ap (λ (bs : List ℕ). front_bytes p ++ bs) (is ∙ ap (λ (n : ℕ). body_bytes shape.kinds.now n blocks ++ after) read.at) ∙ sym (file_is shape f after),
       summed,
     )
+
+-- a file that was looked at
+pub looked_at : (shape : Shape) (subject : Subject) (keys : Keys) (bytes : List ℕ) (found : FrontRead) (blocks : List (List Group)) (at : LookedAt) → IsAlikeFront subject keys bytes found
+    → AreFileGroups shape.columns shape.kinds.now (preface_of found.head) found.at blocks → found.rest.now ≡ body_bytes shape.kinds.now found.at blocks ++ at.rest.now
+    → at.blocks.now ≡ blocks_bytes shape.kinds.now blocks → at.front.head.cover.items ≡ found.head.cover.items → IsLookedAt shape subject keys bytes at
+looked_at shape subject keys bytes found blocks at read groups is has cover =
+    let p = preface_of found.head in
+    let f = file_of found blocks in
+    record {
+      f = f;
+      is_part = record {
+        is_file = record { is_front = read.is_front; are_groups = subst (λ (n : ℕ). AreFileGroups shape.columns shape.kinds.now p n blocks) read.at groups };
+        is_alike = record { subject_is = read.subject_is; keys_are = read.keys_are };
+      };
+      is = read.is ∙ ap (λ (bs : List ℕ). front_bytes p ++ bs) (is ∙ ap (λ (n : ℕ). body_bytes shape.kinds.now n blocks ++ at.rest.now) read.at) ∙ sym (file_is shape f at.rest.now);
+      cover_is = cover;
+      blocks_are = has;
+    }
 
 -- what was written is read
 pub record WasWritten (shape : Shape) (f : StateFile) (found : FrontRead) (rest : List ℕ) : Type 0 where

@@ -2,11 +2,13 @@
 use Rattle.std.specs.Prelude.{◌≡◌, ◌++◌, ℕ, List, All, fold, length}
 use Rattle.std.specs.List.{flat_map}
 use Rattle.partial_agg.specs.Groups.{GroupsByKey}
+use Rattle.state_blocks.specs.Blocks.{blocks_bytes}
 use Rattle.state_front.specs.Front.{IsFront, front_bytes}
 use Rattle.state_front.specs.declared.front.FrontRead.{FrontRead}
 use Rattle.state_head.specs.Head.{Subject, preface_of}
 use Rattle.state_head.specs.Words.{Keys}
 use Rattle.state_head.specs.declared.cover.Stretch.{Stretch}
+use Rattle.state_load.specs.declared.look.LookedAt.{LookedAt}
 use Rattle.state_whole.specs.Adding.{sum_with}
 use Rattle.state_whole.specs.Files.{IsStateFile, StateFile, file_bytes, tuples_in}
 use Rattle.state_whole.specs.Sums.{AreSummed}
@@ -37,6 +39,14 @@ pub record IsPart (shape : Shape) (subject : Subject) (keys : Keys) (f : StateFi
 
 abbrev pub AreParts : Shape → Subject → Keys → List StateFile → Type 0
 AreParts shape subject keys files = All (IsPart shape subject keys) files
+
+-- these bytes begin with a file of this query, whose stretches and blocks were found, and go on after it
+pub record IsLookedAt (shape : Shape) (subject : Subject) (keys : Keys) (bytes : List ℕ) (found : LookedAt) : Type 0 where
+  pub f : StateFile
+  pub is_part : IsPart shape subject keys f
+  pub is : bytes ≡ file_bytes shape.kinds.now f ++ found.rest.now
+  pub cover_is : found.front.head.cover.items ≡ f.preface.cover
+  pub blocks_are : found.blocks.now ≡ blocks_bytes shape.kinds.now f.blocks
 
 -- the groups of files, added to a map in their order
 abbrev pub sum_of : Shape → GroupsByKey → List StateFile → GroupsByKey

@@ -4,6 +4,8 @@
 
 mod first;
 mod loading;
+mod look;
 
 pub use first::add_first;
 pub use loading::{LoadCause, LoadFault, add_files};
+pub use look::{LookedAt, look_first};

@@ -14,6 +14,8 @@ use Rattle.state_head.specs.Head.{Preface, Subject, subject_of}
 use Rattle.state_head.specs.Words.{Keys, keys_of}
 use Rattle.state_load.specs.Loading.{AreParts, files_bytes, stretches_of, sum_of}
 use Rattle.state_plan.specs.FilePlans.{AskFor, IsPlanOf, header_of}
+use Rattle.state_ranges.specs.Sums.{AreRangeSums}
+use Rattle.state_ranges.specs.declared.sums.RangeSums.{RangeSums}
 use Rattle.state_total.specs.Total.{IsCounted, IsFirstRefused, IsWholeCover}
 use Rattle.state_total.specs.declared.total.FirstRefused.{FirstRefused}
 use Rattle.state_head.specs.declared.cover.Stretch.{Stretch}
@@ -110,3 +112,12 @@ pub record IsLoaded (within : Keys) (bytes : List ℕ) (loaded : Loaded) : Type 
   pub columns_are : loaded.sum.kept.columns ≡ length (bound_of input).groups
   pub within_is : keys_of loaded.sum.kept.range ≡ within
   pub sum_is : AreSummed (groups_in input) (stretches_of input.files) loaded.sum
+
+-- the groups of the files that some bytes are, of which the first was opened, in the maps of their ranges
+pub record IsInRanges (bytes : List ℕ) (opened : Opened) (sums : RangeSums) : Type 0 where
+  pub input : Input
+  pub is_input : IsInput bytes input
+  pub subject_is : subject_of opened.whole ≡ input.subject
+  pub is_plan : IsPlanOf input.subject opened.plan
+  pub query_is : opened.plan.plan ≡ input.query
+  pub sum_is : AreRangeSums (length (bound_of input).groups) (groups_in input) (stretches_of input.files) sums

@@ -1,2 +1,4 @@
 mod Adds
+mod Gone
+mod Nowhere
 pub mod Rests

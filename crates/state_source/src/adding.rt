@@ -188,7 +188,7 @@ fn add_rest(
 }
 
 /// A fault of a file that comes after so many others.
-fn shifted(before: u64, why: SourceFault) -> SourceFault
+pub(crate) fn shifted(before: u64, why: SourceFault) -> SourceFault
     ensures { IsShifted before why result }
 {
     let SourceFault::Load { fault } = why else {

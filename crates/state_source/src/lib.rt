@@ -5,8 +5,10 @@
 
 mod adding;
 mod ahead;
+mod beside;
 mod first;
 mod sizes;
 
 pub use adding::{SourceFault, add_source};
+pub use beside::sum_ranges;
 pub use first::{FirstBytes, read_first};

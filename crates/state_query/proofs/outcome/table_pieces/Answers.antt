@@ -1,66 +1,30 @@
-use Rattle.std.proofs.Common.{◌++◌, inr, subst, sym}
+use Rattle.std.proofs.Common.{◌++◌}
+use Rattle.std.proofs.lemmas.Result.{IfOk-weaker, err_from_is_err_and}
 use Rattle.result_text.specs.Pieces.{joined}
-use Rattle.state_finalize.specs.Finished.{IsFinished}
-use Rattle.state_finalize.specs.declared.finishing.Finished.{Finished}
-use Rattle.state_source.proofs.Rests.{of_as, of_more}
-use Rattle.state_query.specs.Inputs.{IsLoaded, IsTableOf, all_keys}
+use Rattle.state_source.specs.Reading.{OfLeft}
+use Rattle.state_source.proofs.Rests.{of_more}
+use Rattle.state_query.specs.Inputs.{IsTableOf}
 use Rattle.state_query.specs.Whys.{IsReadStop}
-use Rattle.state_query.proofs.Ends.{has_row, keys_by_plan, not_finished, stretches_loaded, table_of}
-use Rattle.state_query.proofs.Known.{no_read}
+use Rattle.state_query.proofs.Known.{err_as}
 use Rattle.state_query.proofs.outcome.table_pieces.Goals as goal
 
-pub finish-requires-clause-keys : goal.finish-requires-clause-keys
-finish-requires-clause-keys g c κs within =
-    let is = c.in_ok-loaded.ensures.loaded in
-    keys_by_plan (c.in_ok-first.first.bytes.items ++ is.0) c.in_ok-loaded.loaded is.2
-
-pub finish-requires-clause-stretches : goal.finish-requires-clause-stretches
-finish-requires-clause-stretches g c κs within =
-    let is = c.in_ok-loaded.ensures.loaded in
-    stretches_loaded (c.in_ok-first.first.bytes.items ++ is.0) c.in_ok-loaded.loaded is.2
-
-pub returns-in-Ok-Refused-clause-why : goal.returns-in-Ok-Refused-clause-why
-returns-in-Ok-Refused-clause-why g c =
-    let l = c.in_ok-loaded.loaded in
-    let first = c.in_ok-first.first.bytes.items in
+pub returns-in_err-opened-clause-why : goal.returns-in_err-opened-clause-why
+returns-in_err-opened-clause-why g c =
     let left = g.S.Source.left c.first_of.new.source in
-    let result = c.of_row.result in
-    let finished = subst (λ (f : Finished). IsFinished l.plan.plan.plan l.plan.bound l.whole.sources l.sum.map l.sum.cover.items f) c.in-Ok-Refused.field-0-is c.in-Ok-Refused.ensures.finished in
-    of_more (g.S.Source.left c.args.source.now) left first (λ bytes. IsReadStop bytes result) c.in_ok-first.ensures.reads
-    (of_as left (λ more. IsLoaded all_keys (first ++ more) l) (λ more. IsReadStop (first ++ more) result)
-    (λ more is. inr (c.of_row.ensures (first ++ more) is.input is.is_input (sym is.query_is) (has_row (first ++ more) l c.in-Ok-Refused.row is finished))) c.in_ok-loaded.ensures.loaded)
+    let why = err_from_is_err_and c.from_residual-in_err-opened.result c.from_residual-in_err-opened.ensures.1 in
+    rw (why.1, why.2)
+    (of_more (g.S.Source.left c.args.source.now) left c.in_ok-first.first.bytes.items (λ bytes. IsReadStop bytes c.in_err-opened.field-0.0) c.in_ok-first.ensures.reads (c.in_err-opened.ensures.why left c.in_ok-first.ensures.begun.end))
 
-pub returns-in-Ok-Refused-clause-read_fault : goal.returns-in-Ok-Refused-clause-read_fault
-returns-in-Ok-Refused-clause-read_fault g c = λ e.
-    let l = c.in_ok-loaded.loaded in
-    let bytes = c.in_ok-first.first.bytes.items ++ c.in_ok-loaded.ensures.loaded.0 in
-    let is = c.in_ok-loaded.ensures.loaded.2 in
-    let finished = subst (λ (f : Finished). IsFinished l.plan.plan.plan l.plan.bound l.whole.sources l.sum.map l.sum.cover.items f) c.in-Ok-Refused.field-0-is c.in-Ok-Refused.ensures.finished in
-    absurd (no_read bytes c.of_row.result (c.of_row.ensures bytes is.input is.is_input (sym is.query_is) (has_row bytes l c.in-Ok-Refused.row is finished)) e)
+pub returns-clause-table : goal.returns-clause-table
+returns-clause-table g c =
+    let was = g.S.Source.left c.args.source.now in
+    let left = g.S.Source.left c.first_of.new.source in
+    let first = c.in_ok-first.first.bytes.items in
+    IfOk-weaker c.pieces_of_ranges.result _ _ (λ pieces is. of_more was left first (λ bytes. IsTableOf bytes (joined pieces.items)) c.in_ok-first.ensures.reads is) c.pieces_of_ranges.ensures.table
 
 pub returns-clause-why : goal.returns-clause-why
 returns-clause-why g c =
-    let l = c.in_ok-loaded.loaded in
-    let first = c.in_ok-first.first.bytes.items in
+    let was = g.S.Source.left c.args.source.now in
     let left = g.S.Source.left c.first_of.new.source in
-    let result = c.of_finish.result in
-    of_more (g.S.Source.left c.args.source.now) left first (λ bytes. IsReadStop bytes result) c.in_ok-first.ensures.reads
-    (of_as left (λ more. IsLoaded all_keys (first ++ more) l) (λ more. IsReadStop (first ++ more) result)
-    (λ more is. inr (c.of_finish.ensures (first ++ more) is.input is.is_input (not_finished (first ++ more) l c.in-Err.why is c.in-Err.ensures.refused))) c.in_ok-loaded.ensures.loaded)
-
-pub returns-clause-read_fault : goal.returns-clause-read_fault
-returns-clause-read_fault g c = λ e.
-    let l = c.in_ok-loaded.loaded in
-    let bytes = c.in_ok-first.first.bytes.items ++ c.in_ok-loaded.ensures.loaded.0 in
-    let is = c.in_ok-loaded.ensures.loaded.2 in
-    absurd (no_read bytes c.of_finish.result (c.of_finish.ensures bytes is.input is.is_input (not_finished bytes l c.in-Err.why is c.in-Err.ensures.refused)) e)
-
-pub returns-in-Ok-Table-clause-table : goal.returns-in-Ok-Table-clause-table
-returns-in-Ok-Table-clause-table g c =
-    let l = c.in_ok-loaded.loaded in
     let first = c.in_ok-first.first.bytes.items in
-    let left = g.S.Source.left c.first_of.new.source in
-    let pieces = c.in-Ok-Table.pieces in
-    let finished = subst (λ (f : Finished). IsFinished l.plan.plan.plan l.plan.bound l.whole.sources l.sum.map l.sum.cover.items f) c.in-Ok-Table.field-0-is c.in-Ok-Table.ensures.finished in
-    of_more (g.S.Source.left c.args.source.now) left first (λ bytes. IsTableOf bytes (joined pieces.items)) c.in_ok-first.ensures.reads
-    (of_as left (λ more. IsLoaded all_keys (first ++ more) l) (λ more. IsTableOf (first ++ more) (joined pieces.items)) (λ more is. table_of (first ++ more) l pieces is finished) c.in_ok-loaded.ensures.loaded)
+    err_as c.pieces_of_ranges.result (λ why. OfLeft left (λ more. IsReadStop (first ++ more) why)) (λ why. OfLeft was (λ bytes. IsReadStop bytes why)) (λ why is. of_more was left first (λ bytes. IsReadStop bytes why) c.in_ok-first.ensures.reads is) c.pieces_of_ranges.ensures.why

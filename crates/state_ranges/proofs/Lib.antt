@@ -1,0 +1,4 @@
+mod Done
+mod Placing
+mod Rising
+mod Within
