@@ -94,6 +94,28 @@ impl Receiver {
         answer
     }
 
+    /// Wakes a sender that sleeps in `send` or `send_parts`, after room was given back. `receive` does so itself; after
+    /// any other call the sender looks again within a millisecond, or at once if this one follows. One load, and a
+    /// store and a system call only if the sender sleeps.
+    #[inline]
+    pub fn wake_sender(&mut self, r: &Region)
+        requires here { self.old.region ≡ r.now }
+        ensures { self.new ≡ self.old }
+    {
+        self.rx.wake_sender(r);
+    }
+
+    /// The same, but not if room is left that was not given back.
+    #[inline]
+    pub(crate) fn wake_if_returned(&mut self, r: &Region)
+        requires here { self.old.region ≡ r.now }
+        ensures { self.new ≡ self.old }
+    {
+        if self.taken.unreturned == 0 {
+            self.rx.wake_sender(r);
+        }
+    }
+
     /// The message of the last receive call, if it answered Message; else nothing. It is lent from the receiver's
     /// buffer, without a copy, up to the next receive call.
     pub fn message(&self) -> &[u8]

@@ -1,4 +1,5 @@
-//! The calls that wait for the other end.
+//! The calls that wait for the other end: they try again and again, for a few microseconds, and then sleep between two
+//! tries. A call wakes the other end, if that sleeps, after each try that may have stored a count.
 
 ghost use Rattle.std.specs.Prelude.{◌≡◌, ◌<◌, ◌≤◌, ◌++◌, ◌^◌, List, ℕ, false, length};
 ghost use Rattle.mq_handle.specs.Sends.{Continues, StaysOpen};
@@ -15,7 +16,21 @@ use region_words::Region;
 use std::sync::Wait;
 
 impl Sender {
-    /// Sends the message, and waits while the ring is full: it tries again and again, and backs off in between. It
+    /// Waits a little after a try that found the ring full.
+    #[cold]
+    fn pause<R: Wait>(&mut self, rt: &R, r: &Region, backoff: &Backoff)
+        requires here { self.old.region ≡ r.now }
+        ensures { self.new ≡ self.old }
+    {
+        self.tx.wake_receiver(r);
+        if backoff.is_completed() {
+            self.tx.sleep(rt, r);
+        } else {
+            backoff.snooze();
+        }
+    }
+
+    /// Sends the message, and waits while the ring is full: it tries again and again, and sleeps in between. It
     /// answers as the last try did, which did not block. It may wait forever, if the receiver neither takes words nor
     /// detaches.
     pub fn send<R: Wait>(&mut self, rt: &R, r: &Region, message: &[u8], flush: bool) -> SendDone
@@ -30,8 +45,11 @@ impl Sender {
         let backoff = Backoff::new();
         for _ in rt.forever() {
             match self.try_send(r, message, flush) {
-                SendAnswer::WouldBlock { stored: _ } => backoff.snooze(),
-                SendAnswer::Sent => return SendDone::Sent,
+                SendAnswer::WouldBlock { stored: _ } => self.pause(rt, r, &backoff),
+                SendAnswer::Sent => {
+                    self.wake_if_published(r);
+                    return SendDone::Sent;
+                }
                 SendAnswer::Detached => return SendDone::Detached,
                 SendAnswer::TooLong { length } => return SendDone::TooLong { length },
             }
@@ -61,8 +79,11 @@ impl Sender {
         let backoff = Backoff::new();
         for _ in rt.forever() {
             match self.try_send_parts(r, parts, flush) {
-                SendAnswer::WouldBlock { stored: _ } => backoff.snooze(),
-                SendAnswer::Sent => return SendDone::Sent,
+                SendAnswer::WouldBlock { stored: _ } => self.pause(rt, r, &backoff),
+                SendAnswer::Sent => {
+                    self.wake_if_published(r);
+                    return SendDone::Sent;
+                }
                 SendAnswer::Detached => return SendDone::Detached,
                 SendAnswer::TooLong { length } => return SendDone::TooLong { length },
             }
@@ -72,7 +93,21 @@ impl Sender {
 }
 
 impl Receiver {
-    /// Receives the next message, and waits while none is there: it tries again and again, and backs off in between. It
+    /// Waits a little after a try that found no message.
+    #[cold]
+    fn pause<R: Wait>(&mut self, rt: &R, r: &Region, backoff: &Backoff)
+        requires here { self.old.region ≡ r.now }
+        ensures { self.new ≡ self.old }
+    {
+        self.rx.wake_sender(r);
+        if backoff.is_completed() {
+            self.rx.sleep(rt, r);
+        } else {
+            backoff.snooze();
+        }
+    }
+
+    /// Receives the next message, and waits while none is there: it tries again and again, and sleeps in between. It
     /// answers as the last try did, which did not block. It may wait forever, if the sender neither sends nor detaches.
     pub fn receive<R: Wait>(&mut self, rt: &R, r: &Region) -> ReceiveDone
         requires here { self.old.region ≡ r.now }
@@ -89,8 +124,11 @@ impl Receiver {
         let backoff = Backoff::new();
         for _ in rt.forever() {
             match self.try_receive(r) {
-                ReceiveAnswer::WouldBlock => backoff.snooze(),
-                ReceiveAnswer::Message => return ReceiveDone::Message,
+                ReceiveAnswer::WouldBlock => self.pause(rt, r, &backoff),
+                ReceiveAnswer::Message => {
+                    self.wake_if_returned(r);
+                    return ReceiveDone::Message;
+                }
                 ReceiveAnswer::Detached => return ReceiveDone::Detached,
             }
         }
