@@ -77,7 +77,8 @@ fn take_tuple(
     }
 }
 
-/// Takes the tuples that are there, up to as many as the queue holds, all through one state.
+/// Takes the tuples that are there, up to as many as the queue holds, all through one state. Wakes the worker if it
+/// sleeps until there is room.
 fn take_tuples(r: &Region, tuples: &mut Receiver, groups: &mut GroupMap) -> Look
     requires here { tuples.old.region ≡ r.now }
     requires stays { tuples.old.end.gone ≡ false }
@@ -90,8 +91,14 @@ fn take_tuples(r: &Region, tuples: &mut Receiver, groups: &mut GroupMap) -> Look
     let mut took = false;
     for _ in 0..MOST_AT_ONCE {
         match take_tuple(r, tuples, &mut state, groups) {
-            Look::More { took: true } => took = true,
-            Look::More { took: false } => return Look::More { took },
+            Look::More { took: true } => {
+                tuples.wake_sender(r);
+                took = true;
+            }
+            Look::More { took: false } => {
+                tuples.wake_sender(r);
+                return Look::More { took };
+            }
             Look::Over => return Look::Over,
             Look::Lost => return Look::Lost,
         }

@@ -94,24 +94,16 @@ impl Receiver {
         answer
     }
 
-    /// Wakes a sender that sleeps in `send` or `send_parts`, after room was given back. `receive` does so itself; after
-    /// any other call the sender looks again within a millisecond, or at once if this one follows. One load, and a
-    /// store and a system call only if the sender sleeps.
+    /// Wakes a sender that sleeps in `send` or `send_parts`, if room was given back for all that was taken, or this end
+    /// was detached. `receive` does so itself. After any other call, `detach` too, a sender that sleeps looks again
+    /// within a millisecond, or at once if this call follows. One load; a store and a system call only if the sender
+    /// sleeps.
     #[inline]
     pub fn wake_sender(&mut self, r: &Region)
         requires here { self.old.region ≡ r.now }
         ensures { self.new ≡ self.old }
     {
-        self.rx.wake_sender(r);
-    }
-
-    /// The same, but not if room is left that was not given back.
-    #[inline]
-    pub(crate) fn wake_if_returned(&mut self, r: &Region)
-        requires here { self.old.region ≡ r.now }
-        ensures { self.new ≡ self.old }
-    {
-        if self.taken.unreturned == 0 {
+        if self.taken.unreturned == 0 || self.gone {
             self.rx.wake_sender(r);
         }
     }

@@ -146,21 +146,11 @@ impl Sender {
         answer
     }
 
-    /// Wakes a receiver that sleeps in `receive`, after something was published. `send` and `send_parts` do so
-    /// themselves; after any other call the receiver looks again within a millisecond, or at once if this one follows.
-    /// One load, and a store and a system call only if the receiver sleeps.
+    /// Wakes a receiver that sleeps in `receive`, if all that was put is published. `send` and `send_parts` do so
+    /// themselves. After any other call, `detach` too, a receiver that sleeps looks again within a millisecond, or at
+    /// once if this call follows. One load; a store and a system call only if the receiver sleeps.
     #[inline]
     pub fn wake_receiver(&mut self, r: &Region)
-        requires here { self.old.region ≡ r.now }
-        ensures { self.new ≡ self.old }
-    {
-        self.tx.wake_receiver(r);
-    }
-
-    /// The same, but not if something is left unpublished, as after a message without flush: the receiver would find
-    /// little, and sleep again.
-    #[inline]
-    pub(crate) fn wake_if_published(&mut self, r: &Region)
         requires here { self.old.region ≡ r.now }
         ensures { self.new ≡ self.old }
     {

@@ -22,7 +22,7 @@ impl Sender {
         requires here { self.old.region ≡ r.now }
         ensures { self.new ≡ self.old }
     {
-        self.tx.wake_receiver(r);
+        self.wake_receiver(r);
         if backoff.is_completed() {
             self.tx.sleep(rt, r);
         } else {
@@ -47,7 +47,7 @@ impl Sender {
             match self.try_send(r, message, flush) {
                 SendAnswer::WouldBlock { stored: _ } => self.pause(rt, r, &backoff),
                 SendAnswer::Sent => {
-                    self.wake_if_published(r);
+                    self.wake_receiver(r);
                     return SendDone::Sent;
                 }
                 SendAnswer::Detached => return SendDone::Detached,
@@ -81,7 +81,7 @@ impl Sender {
             match self.try_send_parts(r, parts, flush) {
                 SendAnswer::WouldBlock { stored: _ } => self.pause(rt, r, &backoff),
                 SendAnswer::Sent => {
-                    self.wake_if_published(r);
+                    self.wake_receiver(r);
                     return SendDone::Sent;
                 }
                 SendAnswer::Detached => return SendDone::Detached,
@@ -99,7 +99,7 @@ impl Receiver {
         requires here { self.old.region ≡ r.now }
         ensures { self.new ≡ self.old }
     {
-        self.rx.wake_sender(r);
+        self.wake_sender(r);
         if backoff.is_completed() {
             self.rx.sleep(rt, r);
         } else {
@@ -126,7 +126,7 @@ impl Receiver {
             match self.try_receive(r) {
                 ReceiveAnswer::WouldBlock => self.pause(rt, r, &backoff),
                 ReceiveAnswer::Message => {
-                    self.wake_if_returned(r);
+                    self.wake_sender(r);
                     return ReceiveDone::Message;
                 }
                 ReceiveAnswer::Detached => return ReceiveDone::Detached,

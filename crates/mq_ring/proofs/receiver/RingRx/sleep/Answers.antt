@@ -1,0 +1,13 @@
+use mathlib.Core.Logic.{inr}
+use Rattle.mq_ring.proofs.RowSteps.{idle_self}
+use Rattle.mq_ring.proofs.Sleeping.{receiver_cell, receiver_advice_inside}
+use Rattle.mq_ring.proofs.receiver.RingRx.sleep.Goals as goal
+
+pub sleep_on-requires-clause-inside : goal.sleep_on-requires-clause-inside
+sleep_on-requires-clause-inside c = receiver_advice_inside c.self.inside.seat.table_id _ c.receiver_word-word.result c.self.inside.seat.me _ _ _ _ _ c.self.invariant c.self.view_is c.requires.here (inr c.receiver_word-word.ensures)
+
+pub sleep_on-requires-clause-idle : goal.sleep_on-requires-clause-idle
+sleep_on-requires-clause-idle c = idle_self c.self.inside.seat.me _ c.self.invariant.receives
+
+pub sleep_on-requires-clause-cell : goal.sleep_on-requires-clause-cell
+sleep_on-requires-clause-cell c = receiver_cell c.self.inside.seat.table_id c.receiver_word-word.result c.self.inside.seat.me _ _ _ _ c.self.invariant (inr c.receiver_word-word.ensures)
