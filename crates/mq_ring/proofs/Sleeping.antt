@@ -51,3 +51,22 @@ pub receiver_advice_inside : (t z : TableId) (k : ℕ) (me : Mine) (base size ma
     → receiving_end t (rx_of me.0.view) (rx_told me.0.view) ≡ o → o.region ≡ z → IsAdvice base size k → k < z.words
 receiver_advice_inside t z k me base size max position o p v here is =
     in_region t z (rx_of me.0.view).ring base size max k p.lies (ap (λ (x : ReceivingEnd). x.region) v ∙ here) (among t (rx_of me.0.view).ring base size max k p.lies is).1
+
+-- an end whose seat is as it was is as it was
+pub sender_stays : (t t' u : TableId) (me me' : Mine) (base size max position : ℕ) → t' ≡ t → me' ≡ me → IsSender t u me base size max position → IsSender t' u me' base size max position
+sender_stays t t' u me me' base size max position e f p =
+    subst (λ (x : TableId). IsSender x u me' base size max position) (sym e) (subst (λ (x : Mine). IsSender t u x base size max position) (sym f) p)
+
+pub receiver_stays : (t t' : TableId) (me me' : Mine) (base size max position : ℕ) → t' ≡ t → me' ≡ me → IsReceiver t me base size max position → IsReceiver t' me' base size max position
+receiver_stays t t' me me' base size max position e f p =
+    subst (λ (x : TableId). IsReceiver x me' base size max position) (sym e) (subst (λ (x : Mine). IsReceiver t x base size max position) (sym f) p)
+
+pub sender_same : (t t' : TableId) (me me' : Mine) (rest : WordMap) (bytes : ℕ) (o : SendingEnd) → t' ≡ t → me' ≡ me
+    → sending_end t (tx_of me.0.view) (tx_told me.0.view) rest bytes ≡ o → sending_end t' (tx_of me'.0.view) (tx_told me'.0.view) rest bytes ≡ o
+sender_same t t' me me' rest bytes o e f v =
+    ap (λ (x : TableId). sending_end x (tx_of me'.0.view) (tx_told me'.0.view) rest bytes) e ∙ ap (λ (x : Mine). sending_end t (tx_of x.0.view) (tx_told x.0.view) rest bytes) f ∙ v
+
+pub receiver_same : (t t' : TableId) (me me' : Mine) (o : ReceivingEnd) → t' ≡ t → me' ≡ me
+    → receiving_end t (rx_of me.0.view) (rx_told me.0.view) ≡ o → receiving_end t' (rx_of me'.0.view) (rx_told me'.0.view) ≡ o
+receiver_same t t' me me' o e f v =
+    ap (λ (x : TableId). receiving_end x (rx_of me'.0.view) (rx_told me'.0.view)) e ∙ ap (λ (x : Mine). receiving_end t (rx_of x.0.view) (rx_told x.0.view)) f ∙ v

@@ -9,7 +9,7 @@
 //! The words of advice are the atomic words of the first two cells, which themselves lie in their slots. In a ring of
 //! one cell both ends have the same word, so each has its own number there.
 
-ghost use Rattle.std.specs.Prelude.{◌≡◌, ℕ, ◌+◌, ◌<◌, ◌≤◌, ◌^◌, min};
+ghost use Rattle.std.specs.Prelude.{◌≡◌, ◌+◌, ◌<◌, ◌^◌, min};
 ghost use Rattle.region_rule.specs.Places.{InSlot, IsIdle};
 
 use crate::receiver::RingRx;
@@ -54,7 +54,7 @@ fn advise(r: &Region, seat: &mut Seat<u64, Known>, word: u64, advice: u64)
     requires inside { word < r.now.words }
     requires idle { IsIdle seat.old.me seat.old.me.0.view }
     requires cell { InSlot seat.old.me.0.view word }
-    ensures same { (seat.new.table_id ≡ seat.old.table_id) × (seat.new.me ≡ seat.old.me) }
+    ensures { (seat.new.table_id ≡ seat.old.table_id) × (seat.new.me ≡ seat.old.me) }
 {
     r.store_as::<Advises>(seat, word, advice);
 }
@@ -66,7 +66,7 @@ fn sleep_on<R: Wait>(rt: &R, r: &Region, seat: &mut Seat<u64, Known>, word: u64,
     requires inside { word < r.now.words }
     requires idle { IsIdle seat.old.me seat.old.me.0.view }
     requires cell { InSlot seat.old.me.0.view word }
-    ensures same { (seat.new.table_id ≡ seat.old.table_id) × (seat.new.me ≡ seat.old.me) }
+    ensures { (seat.new.table_id ≡ seat.old.table_id) × (seat.new.me ≡ seat.old.me) }
 {
     if r.peek(word) == u64::from(who) {
         r.park_timeout(rt, word, who, Duration::from_millis(LONGEST_SLEEP));
@@ -82,10 +82,24 @@ fn wake(r: &Region, seat: &mut Seat<u64, Known>, word: u64)
     requires inside { word < r.now.words }
     requires idle { IsIdle seat.old.me seat.old.me.0.view }
     requires cell { InSlot seat.old.me.0.view word }
-    ensures same { (seat.new.table_id ≡ seat.old.table_id) × (seat.new.me ≡ seat.old.me) }
+    ensures { (seat.new.table_id ≡ seat.old.table_id) × (seat.new.me ≡ seat.old.me) }
 {
     advise(r, seat, word, NOBODY);
     r.wake_one(word);
+}
+
+/// Wakes who sleeps, if the word says that `who` does.
+#[inline]
+fn wake_if_asleep(r: &Region, seat: &mut Seat<u64, Known>, word: u64, who: u32)
+    requires here { seat.old.table_id ≡ r.now }
+    requires inside { word < r.now.words }
+    requires idle { IsIdle seat.old.me seat.old.me.0.view }
+    requires cell { InSlot seat.old.me.0.view word }
+    ensures { (seat.new.table_id ≡ seat.old.table_id) × (seat.new.me ≡ seat.old.me) }
+{
+    if r.peek(word) == u64::from(who) {
+        wake(r, seat, word);
+    }
 }
 
 impl RingTx {
@@ -108,9 +122,7 @@ impl RingTx {
         ensures { self.new ≡ self.old }
     {
         let word = receiver_word(self.site.base, self.site.size);
-        if r.peek(word) == u64::from(RECEIVER) {
-            wake(r, &mut self.seat, word);
-        }
+        wake_if_asleep(r, &mut self.seat, word, RECEIVER);
     }
 }
 
@@ -132,8 +144,6 @@ impl RingRx {
         ensures { self.new ≡ self.old }
     {
         let word = sender_word(self.base);
-        if r.peek(word) == u64::from(SENDER) {
-            wake(r, &mut self.seat, word);
-        }
+        wake_if_asleep(r, &mut self.seat, word, SENDER);
     }
 }
