@@ -1,4 +1,4 @@
-use Rattle.mq_ring.proofs.Sleeping.{advice_allows}
+use Rattle.mq_ring.proofs.Advice.{advice_allows}
 use Rattle.mq_ring.proofs.sleeping.advise.Goals as goal
 
 pub store_as-requires-clause-allowed : goal.store_as-requires-clause-allowed

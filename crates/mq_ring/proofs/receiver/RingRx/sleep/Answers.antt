@@ -1,6 +1,6 @@
 use mathlib.Core.Logic.{inr}
 use Rattle.mq_ring.proofs.RowSteps.{idle_self}
-use Rattle.mq_ring.proofs.Sleeping.{receiver_cell, receiver_advice_inside, receiver_stays, receiver_same}
+use Rattle.mq_ring.proofs.Advice.{receiver_cell, receiver_advice_inside, receiver_stays, receiver_same}
 use Rattle.mq_ring.proofs.receiver.RingRx.sleep.Goals as goal
 
 pub sleep_on-requires-clause-inside : goal.sleep_on-requires-clause-inside

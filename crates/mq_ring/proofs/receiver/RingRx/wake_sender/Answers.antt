@@ -1,6 +1,6 @@
 use mathlib.Core.Logic.{inl}
 use Rattle.mq_ring.proofs.RowSteps.{idle_self}
-use Rattle.mq_ring.proofs.Sleeping.{receiver_cell, receiver_advice_inside, receiver_stays, receiver_same}
+use Rattle.mq_ring.proofs.Advice.{receiver_cell, receiver_advice_inside, receiver_stays, receiver_same}
 use Rattle.mq_ring.proofs.receiver.RingRx.wake_sender.Goals as goal
 
 pub wake_if_asleep-requires-clause-inside : goal.wake_if_asleep-requires-clause-inside

@@ -1,6 +1,6 @@
 use mathlib.Core.Logic.{inl}
 use Rattle.mq_ring.proofs.RowSteps.{idle_self}
-use Rattle.mq_ring.proofs.Sleeping.{sender_cell, sender_advice_inside, sender_stays, sender_same}
+use Rattle.mq_ring.proofs.Advice.{sender_cell, sender_advice_inside, sender_stays, sender_same}
 use Rattle.mq_ring.proofs.sender.RingTx.sleep.Goals as goal
 
 pub sleep_on-requires-clause-inside : goal.sleep_on-requires-clause-inside

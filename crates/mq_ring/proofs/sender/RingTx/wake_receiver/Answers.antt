@@ -1,6 +1,6 @@
 use mathlib.Core.Logic.{inr}
 use Rattle.mq_ring.proofs.RowSteps.{idle_self}
-use Rattle.mq_ring.proofs.Sleeping.{sender_cell, sender_advice_inside, sender_stays, sender_same}
+use Rattle.mq_ring.proofs.Advice.{sender_cell, sender_advice_inside, sender_stays, sender_same}
 use Rattle.mq_ring.proofs.sender.RingTx.wake_receiver.Goals as goal
 
 pub wake_if_asleep-requires-clause-inside : goal.wake_if_asleep-requires-clause-inside
