@@ -23,7 +23,9 @@ use std::time::Duration;
 /// What a word of advice says: that nobody sleeps, that the sender does, or that the receiver does. A new ring's may say
 /// anything.
 const NOBODY: u64 = 0;
+
 const SENDER: u32 = 1;
+
 const RECEIVER: u32 = 2;
 
 /// The longest sleep in milliseconds, after which an end looks again: the calls that try wake nobody, so that they can
