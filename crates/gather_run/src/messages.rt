@@ -78,12 +78,7 @@ fn take_tuple(
 }
 
 /// The same, and it wakes the worker if that sleeps until there is room for its next tuple.
-fn take_next(
-    r: &Region,
-    tuples: &mut Receiver,
-    state: &mut AggState,
-    groups: &mut GroupMap,
-) -> Look
+fn take_next(r: &Region, tuples: &mut Receiver, state: &mut AggState, groups: &mut GroupMap) -> Look
     requires here { tuples.old.region ≡ r.now }
     requires stays { tuples.old.end.gone ≡ false }
     ensures region { tuples.new.region ≡ tuples.old.region }

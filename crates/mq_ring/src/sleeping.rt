@@ -20,12 +20,13 @@ use region_words::Region;
 use std::sync::Wait;
 use std::time::Duration;
 
-/// What a word of advice says: that nobody sleeps, that the sender does, or that the receiver does. A new ring's may say
-/// anything.
+/// A word of advice while nobody sleeps. That of a new ring may be anything.
 const NOBODY: u64 = 0;
 
+/// While the sender sleeps, or is about to.
 const SENDER: u32 = 1;
 
+/// While the receiver does.
 const RECEIVER: u32 = 2;
 
 /// The longest sleep in milliseconds, after which an end looks again: the calls that try wake nobody, so that they can
