@@ -28,9 +28,9 @@ returns-clause-back c =
     let w = c.args.words.now in
     let x = c.args.object in
     one_chunk c.split_chunk.result x (c.split_chunk.ensures.place.0 ∙ c.word.ensures) (omega (arith, c.split_chunk.ensures.place.1, x.whole)) (
-      c.split_chunk.ensures.words
-      ∙ ap (λ (o : Owned). owned o.region (range_of o.words c.word.result (x.bytes / 8))) c.join.ensures.both
-      ∙ ap (λ (z : ℕ). owned w.region (range_of (union w.words x.part.words) z (x.bytes / 8))) c.word.ensures
-      ∙ ap (λ (m : WordMap). owned w.region m) (range-union w.words x.part.words x.at (x.bytes / 8) x.just)
-      ∙ ap (λ (t : TableId). owned t x.part.words) (c.requires.here.0 ∙ sym c.requires.here.1)
+    c.split_chunk.ensures.words
+    ∙ ap (λ (o : Owned). owned o.region (range_of o.words c.word.result (x.bytes / 8))) c.join.ensures.both
+    ∙ ap (λ (z : ℕ). owned w.region (range_of (union w.words x.part.words) z (x.bytes / 8))) c.word.ensures
+    ∙ ap (λ (m : WordMap). owned w.region m) (range-union w.words x.part.words x.at (x.bytes / 8) x.just)
+    ∙ ap (λ (t : TableId). owned t x.part.words) (c.requires.here.0 ∙ sym c.requires.here.1)
     )
