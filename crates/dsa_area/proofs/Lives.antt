@@ -1,5 +1,5 @@
 -- An object that is live stays so, and is taken back.
-use Rattle.std.proofs.Common.{◌≡◌, ℕ, ◌*◌, ◌/◌, ◌%◌, Bool, true, List, [], ◌∷◌, ◌++◌, Option, Some, None, refl, sym, ◌∙◌, arith}
+use Rattle.std.proofs.Common.{◌≡◌, ℕ, ◌*◌, ◌/◌, ◌%◌, true, List, [], ◌∷◌, ◌++◌, Some, None, refl, sym, ◌∙◌, arith}
 use Rattle.lock_book.specs.declared.view.Entry.{Entry}
 use Rattle.lock_book.specs.History.{IsLegal, entry, last_of}
 use Rattle.lock_book.proofs.Histories.{legal_prefix}

@@ -2,7 +2,7 @@
 use Rattle.std.specs.Prelude.{◌≡◌, ℕ, List, [], ◌∷◌, ◌++◌, Some, true}
 use Rattle.lock_book.specs.declared.view.Entry.{Entry}
 use Rattle.lock_book.specs.History.{IsLegal, entry, last_of}
-use Rattle.size_classes.specs.Classes.{IsClass, class_size}
+use Rattle.size_classes.specs.Classes.{class_size}
 use Rattle.span_pools.specs.Legal.{PoolState, PoolCall, PoolReply, Free, Stranger, object_in}
 use Rattle.span_pools.specs.Lives.{Leaves}
 use Rattle.span_pools.specs.Places.{place}
