@@ -1,6 +1,6 @@
 //! How the table of a query is made.
 
-ghost use Rattle.std.specs.Prelude.{◌≡◌, ◌≤◌, ◌*◌, ◌+◌, IfOk, map, length};
+ghost use Rattle.std.specs.Prelude.{◌≡◌, ◌≤◌, ◌*◌, IfOk, map, length};
 ghost use Rattle.std.specs.List.{zip};
 ghost use Rattle.free_pages.specs.Area.{area_size};
 ghost use Rattle.dsa_area.specs.Shown.{pages_of};
@@ -18,7 +18,7 @@ use std::alloc::{AllocError, Global};
 /// The words of a packed key.
 const KEY_WORDS: u32 = 32;
 
-/// The least pages of an area: those of one superblock.
+/// The least pages of an area that has room for a group: those of one superblock.
 pub const LEAST_PAGES: u32 = 16;
 
 /// The most pages of an area.
@@ -44,30 +44,36 @@ fn pair_up(
     Ok(seats)
 }
 
-/// The words of a chunk for a table in an area of this many pages: 128 slices, and then the area.
+/// The words of the chunk of a table whose area has this many pages: its 128 slices, and then the area.
 pub fn part_words(pages: u32) -> u64
-    requires { pages ≤ MOST_PAGES }
-    ensures size { result ≡ part_size pages }
-    ensures small { result ≤ 34100000 }
-    ensures whole { result % 4 ≡ 0 }
+    ensures { result ≡ part_size pages }
 {
     u64::from(PARTITIONS) + area_words(pages)
 }
 
-/// The slices of an empty table, from the front of a chunk, and the rest of it.
-fn cut_front(alloc: Global, r: &Region, chunk: Chunk, pages: u32) -> Result<(Vec<Chunk>, Chunk), AllocError>
+/// The slices of an empty table, cut off the front of its chunk, and the rest of that.
+fn cut_front(
+    alloc: Global,
+    r: &Region,
+    chunk: Chunk,
+    pages: u32,
+) -> Result<(Vec<Chunk>, Chunk), AllocError>
     requires here { chunk.part.region ≡ r.now }
     requires size { chunk.bytes ≡ 8 * part_size pages }
-    requires few { pages ≤ MOST_PAGES }
     ensures count { IfOk result (λ c. length c.0.items ≡ 128) }
     ensures slices { IfOk result (λ c. HaveWords r.now c.0.items) }
     ensures here { IfOk result (λ c. c.1.part.region ≡ r.now) }
     ensures size { IfOk result (λ c. c.1.bytes ≡ 8 * area_size pages) }
 {
     chunk.is_small();
-    let Chunk { at, bytes: _, mut part } = chunk;
-    let slices = cut_slices(alloc, r, &mut part, at.word())?;
-    let rest = part.split_chunk(r, at.word() + u64::from(PARTITIONS), area_words(pages));
+    let Chunk {
+        at,
+        bytes: _,
+        mut part,
+    } = chunk;
+    let front = at.word();
+    let slices = cut_slices(alloc, r, &mut part, front)?;
+    let rest = part.split_chunk(r, front + u64::from(PARTITIONS), area_words(pages));
     Ok((slices, rest))
 }
 
@@ -84,7 +90,7 @@ pub fn open(
 ) -> Result<(HashPart, Vec<HashSeat>), AllocError>
     requires here { chunk.part.region ≡ r.now }
     requires size { chunk.bytes ≡ 8 * part_size pages }
-    requires pages { (LEAST_PAGES ≤ pages) × (pages ≤ MOST_PAGES) }
+    requires few { pages ≤ MOST_PAGES }
     requires callers { 1 ≤ callers }
     ensures part { IfOk result (λ t. IsPart r.now t.0) }
     ensures pages { IfOk result (λ t. pages_of t.0.area ≡ pages) }

@@ -1,11 +1,10 @@
 //! The shared table of the left rows, in its own area.
 
-ghost use Rattle.std.specs.Prelude.{◌≡◌, ◌≤◌, ◌^◌, ℕ, [], IfOk, length};
+ghost use Rattle.std.specs.Prelude.{◌≡◌, ◌≤◌, ◌^◌, ℕ, [], IfOk};
 ghost use mathlib.Core.Option.{some};
 ghost use lib.ListN.{get_elem?};
 ghost use Rattle.lock_book.specs.Shown.{mine_of};
-ghost use Rattle.dsa_area.specs.Shown.{AreAll as AreAllOfArea, IsArea, callers_of as area_callers};
-ghost use Rattle.dshash_parts.specs.Opening.{HaveWords};
+ghost use Rattle.dsa_area.specs.Shown.{AreAll as AreAllOfArea, callers_of as area_callers};
 ghost use Rattle.dshash_parts.specs.Tables.{AreAll, callers_of};
 ghost use Rattle.hash_join.specs.Stores.{IsStore};
 
@@ -13,7 +12,7 @@ use dsa_area::{Area, AreaPass, area_words};
 use dshash_core::PARTITIONS;
 use dshash_parts::{DsPass, Dshash, cut_slices};
 use join_pairs::LastRow;
-use region_words::{Chunk, Region};
+use region_words::Region;
 use std::alloc::{AllocError, Global};
 
 /// The pages of the area.
@@ -25,7 +24,7 @@ pub(crate) const KEY_WORDS: u32 = 32;
 /// A table, with the area of its items. Threads share it by reference.
 #[derive(Drop)]
 pub(crate) struct Store {
-    /// The words of the area, behind the slices that the table began with.
+    /// The words of the slices with which the table began, and then of the area.
     pub(crate) region: Region,
     /// Where the table's items come from.
     pub(crate) area: Area,
@@ -42,37 +41,12 @@ pub(crate) struct Passes {
     pub(crate) tables: Vec<DsPass<LastRow>>,
 }
 
-/// A region with the slices of an empty table and an area, and the area's passes of this many callers.
-struct Ground {
-    region: Region,
-    slices: Vec<Chunk>,
-    area: Area,
-    passes: Vec<AreaPass>,
-}
-
-/// Word 0, which is no place, and the slices come before the area.
+/// The first word of the area: word 0 is no place, and the slices come next.
 const AREA_AT: u64 = 1 + PARTITIONS as u64;
 
-/// A region with an area in it, and slices cut off before the area gets the rest.
+/// An empty table for this many callers, with an area in one region. The table's slices are cut off before the area gets
+/// the rest, so the area is asked for nothing, and there is no table only if there was no memory.
 #[tactic(auto, using(word_map::proofs::Maps::answers, std::proofs::lemmas::Bool::Decides::nat_tests))]
-fn open_ground(alloc: Global, callers: u32) -> Result<Ground, AllocError>
-    requires callers { 1 ≤ callers }
-    ensures count { IfOk result (λ g. length g.slices.items ≡ 128) }
-    ensures slices { IfOk result (λ g. HaveWords g.region g.slices.items) }
-    ensures area { IfOk result (λ g. IsArea g.region g.area) }
-    ensures callers { IfOk result (λ g. area_callers g.area ≡ callers) }
-    ensures passes { IfOk result (λ g. AreAllOfArea g.area g.passes.items) }
-{
-    let words = area_words(PAGES);
-    let (region, mut part) = Region::new(alloc, (AREA_AT + words) as usize)?;
-    let slices = cut_slices(alloc, &region, &mut part, 1)?;
-    let chunk = part.split_chunk(&region, AREA_AT, words);
-    let (area, passes) = Area::new(alloc, &region, chunk, PAGES, callers)?;
-    Ok(Ground { region, slices, area, passes })
-}
-
-/// An empty table for this many callers, in a new area of which it has asked nothing yet: there is no table only if
-/// there is no memory.
 pub(crate) fn open_store(alloc: Global, callers: u32) -> Result<(Store, Passes), AllocError>
     requires callers { 1 ≤ callers }
     ensures store { IfOk result (λ s. IsStore s.0) }
@@ -81,7 +55,11 @@ pub(crate) fn open_store(alloc: Global, callers: u32) -> Result<(Store, Passes),
     ensures tables { IfOk result (λ s. AreAll s.0.table s.1.tables.items) }
     ensures new { IfOk result (λ s. (n : ℕ) (p : _) → get_elem? s.1.tables.items n ≡ some p → (number : ℕ) → mine_of p number ≡ []) }
 {
-    let Ground { region, slices, area, passes: areas } = open_ground(alloc, callers)?;
+    let words = area_words(PAGES);
+    let (region, mut part) = Region::new(alloc, (AREA_AT + words) as usize)?;
+    let slices = cut_slices(alloc, &region, &mut part, 1)?;
+    let chunk = part.split_chunk(&region, AREA_AT, words);
+    let (area, areas) = Area::new(alloc, &region, chunk, PAGES, callers)?;
     let (table, tables) = Dshash::on_slices(alloc, &region, slices, KEY_WORDS, callers)?;
     let store = Store {
         region,
