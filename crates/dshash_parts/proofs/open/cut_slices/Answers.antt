@@ -1,4 +1,4 @@
-use Rattle.std.proofs.Common.{◌≡◌, ℕ, ◌+◌, ◌<◌, ◌≤◌, IsSome, List, length, refl, sym, ap, subst, ◌∙◌, arith, length-append}
+use Rattle.std.proofs.Common.{◌≡◌, ℕ, ◌+◌, ◌<◌, IsSome, List, length, sym, ap, subst, ◌∙◌, arith, length-append}
 use Rattle.word_map.specs.WordMap.{WordMap, at as word_at, rest_of}
 use Rattle.word_map.proofs.Uses.{rest-has_behind}
 use Rattle.region_words.specs.Parts.{Owned, owned}
