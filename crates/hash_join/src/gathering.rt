@@ -107,11 +107,7 @@ fn fillers(alloc: Global, passes: Passes, seats: Vec<ClaimSeat>) -> Result<Vec<F
 }
 
 /// A table for this many participants, and each with its tokens.
-fn open_round(
-    alloc: Global,
-    rows: &RowStore,
-    callers: u32,
-) -> Result<Round, AllocError>
+fn open_round(alloc: Global, rows: &RowStore, callers: u32) -> Result<Round, AllocError>
     requires callers { 1 ≤ callers }
     ensures store { IfOk result (λ r. IsStore r.store) }
     ensures blocks { IfOk result (λ r. AreBlocks rows.now (blocks_of r.claims)) }

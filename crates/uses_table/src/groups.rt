@@ -14,10 +14,7 @@ use std::test::Fail;
 
 /// A table in its own region, and the seat of its one participant.
 #[tactic(auto, using(word_map::proofs::Maps::answers, std::proofs::lemmas::Bool::Decides::nat_tests))]
-fn table_for_one(
-    alloc: Global,
-    pages: u32,
-) -> Result<(Region, HashPart, Vec<HashSeat>), Fail>
+fn table_for_one(alloc: Global, pages: u32) -> Result<(Region, HashPart, Vec<HashSeat>), Fail>
     requires pages { pages ≤ 65536 }
     ensures part { IfOk result (λ t. IsPart t.0 t.1) }
     ensures callers { IfOk result (λ t. callers_of t.1 ≡ 1) }
