@@ -1,6 +1,6 @@
 //! How a table is made, and how a further caller comes to it.
 
-ghost use Rattle.std.specs.Prelude.{◌≡◌, ◌+◌, ◌≤◌, ◌<◌, IfOk, IfErr, length};
+ghost use Rattle.std.specs.Prelude.{◌≡◌, ◌+◌, ◌≤◌, ◌<◌, IfOk, IfErr};
 ghost use Rattle.c_records.specs.Made.{IsFirst, IsFurther};
 ghost use Rattle.c_table.specs.Made.{IsRefused};
 

@@ -44,8 +44,8 @@ pub(crate) struct Passes {
 /// The first word of the area: word 0 is no place, and the slices come next.
 const AREA_AT: u64 = 1 + PARTITIONS as u64;
 
-/// An empty table for this many callers, with an area in one region. The table's slices are cut off before the area gets
-/// the rest, so the area is asked for nothing, and there is no table only if there was no memory.
+/// An empty table for this many callers, with its area, in one region. The table's slices are cut off before the area
+/// gets the rest, so the area is asked for nothing, and there is no table only if there was no memory.
 #[tactic(auto, using(word_map::proofs::Maps::answers, std::proofs::lemmas::Bool::Decides::nat_tests))]
 pub(crate) fn open_store(alloc: Global, callers: u32) -> Result<(Store, Passes), AllocError>
     requires callers { 1 ≤ callers }

@@ -1,7 +1,7 @@
 //! The table of groups of a context: with its area it is a chunk of the segment, under its own key. It is made only if
 //! the plan asks for it and the area has room for groups.
 
-ghost use Rattle.std.specs.Prelude.{◌&&◌, leb, ◌∷◌, ◌≡◌, ◌≤◌, ◌*◌, ◌+◌, ◌%◌, ℕ, IfOk, IfSome, OnOk, None, is_some, true};
+ghost use Rattle.std.specs.Prelude.{◌&&◌, leb, ◌∷◌, ◌≡◌, ◌≤◌, ◌*◌, ◌+◌, ◌%◌, ℕ, IfOk, IfSome, OnOk, None, is_some};
 ghost use Rattle.agg_table.specs.Shown.{part_size};
 ghost use Rattle.dsa_area.specs.Shown.{pages_of};
 ghost use Rattle.parallel_ctx.specs.Making.{AreDealt, IsMaking, firsts, hash_size, with_queue};
