@@ -15,5 +15,5 @@ mod part;
 mod put;
 
 pub use draining::drain;
-pub use opening::{LEAST_PAGES, MOST_PAGES, open};
+pub use opening::{LEAST_PAGES, MOST_PAGES, open, part_words};
 pub use part::{HashPart, HashSeat};

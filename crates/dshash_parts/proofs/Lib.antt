@@ -8,6 +8,7 @@ pub mod Rounds
 pub mod Spares
 pub mod Ends
 pub mod Opening
+pub mod Slices
 pub mod Cells
 pub mod Owners
 pub mod Callers

@@ -39,6 +39,6 @@ pub use laws::{
     callers_make_all, cells_fold, keys_are_cells, owners_have_cells, sizes_grow, stays_roomy,
 };
 pub use numbered::Numbered;
-pub use open::DsNew;
+pub use open::{DsNew, cut_slices};
 pub use table::{DsPass, Dshash};
 pub use trying::Busy;
