@@ -16,4 +16,5 @@ pub mod Done
 pub mod Takings
 pub mod Tries
 pub mod Visits
+pub mod Turns
 pub mod Homes

@@ -57,7 +57,7 @@ module _ {S C R : Type 0} (step : Option S → C → Option S × R) (may : ℕ �
     after_ours : AreOurs number e.after.cells
     after_ours = let turn = (h ours).0 in turn_ours step number s e.after e.call e.reply turn.is turn.ours ours
 
-  lawful_from : (s : PartitionState S) (es : List (Entry (PartitionState S) (PartitionCalls C) (PartitionReplies S R))) → AreOurs number s.cells → IsLegal Taken s es → IsLegal (λ _. PartitionLegal step number) s es
+  pub lawful_from : (s : PartitionState S) (es : List (Entry (PartitionState S) (PartitionCalls C) (PartitionReplies S R))) → AreOurs number s.cells → IsLegal Taken s es → IsLegal (λ _. PartitionLegal step number) s es
   lawful_from s [] ours h = tt
   lawful_from s (e ∷ es) ours h = ((h.0 ours).0, lawful_from e.after es (after_ours s e ours h.0) h.1)
 

@@ -7,7 +7,7 @@
 //! of a key are, in one history, those of one cell, while partitions move between any two of them (`laws`).
 //!
 //! `numbered` is the locked value, `turns` one event at it, `requests` one request to the area; `growing`, `calls`,
-//! `finding` and `taking` put these together. `trying` has the turns that will not wait. `open` and `close` are how a
+//! `finding` and `taking` put these together. `trying` has the turns that will not wait, `several` turns of several calls. `open` and `close` are how a
 //! table begins and ends, `origin` is how clauses know its area, and `listing` lists its entries.
 
 #![tactic(auto)]
@@ -25,6 +25,7 @@ mod numbered;
 mod open;
 mod origin;
 mod requests;
+mod several;
 mod table;
 mod taking;
 mod trying;
@@ -40,5 +41,6 @@ pub use laws::{
 };
 pub use numbered::Numbered;
 pub use open::DsNew;
+pub use several::DsTurn;
 pub use table::{DsPass, Dshash};
 pub use trying::Busy;

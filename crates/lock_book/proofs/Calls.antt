@@ -89,7 +89,7 @@ same_slot l at x y e f = ap (first_slot x) (sym e ∙ f)
 
 module _ {X N S C R : Type 0} (slot_name : X → N) (slot_state : X → S) (legal : N → ℕ → S → C → R → S → Type 0) (at : ℕ) (m m' : Me X (View N S C R)) (none : m.1 ≡ []) (d : Taken slot_name slot_state legal m at m') where
   -- the seat after the value was taken
-  abbrev taken : View N S C R
+  abbrev pub taken : View N S C R
   taken = seeing m.0 at d.log (Holding at)
 
   pub slot_taken : m'.1 ≡ (at, d.slot) ∷ []

@@ -146,10 +146,13 @@ module _ {T E I O N S C R : Type 0} {g : Ghosts T E I O N S C R} (s : Shelf T E 
       pub ended_number : number_of q ≡ number_in t
       ended_number = ap (λ (z : View N S C R). z.from) z_is
 
+      pub ended_seen : seen_of q (place_in t) ≡ begun_in t ++ calls_in t
+      ended_seen = ap (λ (z : View N S C R). seen_at z t.at) z_is ∙ seen_here g.legal t.seat.me.0 t.at es
+
       pub ended_called : CalledAll s p q (place_in t) (calls_in t)
       ended_called = record {
         before = begun_in t;
-        ends = ap (λ (z : View N S C R). seen_at z t.at) z_is ∙ seen_here g.legal t.seat.me.0 t.at es;
+        ends = ended_seen;
         begins = h.begins;
         steps = lawful_here;
         by = subst (λ (n : ℕ). AreBy n es) h.number own;

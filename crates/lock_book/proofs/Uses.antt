@@ -9,12 +9,13 @@ use Rattle.lock_book.specs.declared.view.Entry.{Entry}
 use Rattle.lock_book.specs.declared.view.View.{View}
 use Rattle.lock_book.specs.History.{entry, last_of, calls_by, AreBy, StartsWith, IsLegal}
 use Rattle.lock_book.specs.declared.kept.Kept.{Ghosts}
+use Rattle.lock_book.specs.declared.several.Turn.{Turn}
 use Rattle.lock_book.specs.declared.shelf.Pass.{Pass}
 use Rattle.lock_book.specs.declared.shelf.Shelf.{Shelf}
 use Rattle.lock_book.specs.Folds.{IsCommutativeMonoid, folded, folded_below}
 use Rattle.lock_book.specs.Ruled.{view_of}
 use Rattle.lock_book.specs.Told.{Histories, IsPass, Adds, AddsAll, MakesAll}
-use Rattle.lock_book.specs.Shown.{Belongs, Called, callers_of, count_of, mine_of, number_of, opens_of, seen_of}
+use Rattle.lock_book.specs.Shown.{Belongs, Called, IsTurn, begun_in, calls_carried, calls_in, callers_of, count_of, mine_of, number_of, opens_of, place_in, seen_of}
 use Rattle.lock_book.proofs.Histories.{last_snoc, starts_refl, starts_trans}
 use Rattle.lock_book.proofs.Totals.{there}
 
@@ -163,12 +164,18 @@ module _ {T E I O N S C R : Type 0} {g : Ghosts T E I O N S C R} where
       (step (number_of p) first a, ap (last_of o.1) a.ends ∙ last_snoc o.1 a.before _)
 
 has_view : {N S C R : Type 0} (vs : List (View N S C R)) (opens : List (N × S)) → (view_of vs).opens ≡ opens → 0 < length opens → length vs ≤ 1 → length vs ≡ 1
-has_view [] opens e some few = let l : 0 ≡ length opens = ap length e in absurd (omega arith)
-has_view (v ∷ vs) opens e some few = omega arith
+has_view [] opens e low few = let l : 0 ≡ length opens = ap length e in absurd (omega arith)
+has_view (v ∷ vs) opens e low few = omega arith
 
 -- a pass that belongs to a shelf has its seat
 pub is_here : {T E I O N S C R : Type 0} {g : Ghosts T E I O N S C R} (s : Shelf T E I O N S C R) (p : Pass T E I O N S C R g) → Belongs s p → length p.badge.views ≡ 1
 is_here s p b = let sized = s.sized in has_view p.badge.views (opens_of s) b.opens (omega arith) p.one
+
+-- what a turn began with and its calls so far are one legal history
+pub turn_legal : {T E I O N S C R : Type 0} {g : Ghosts T E I O N S C R} (s : Shelf T E I O N S C R) (p : Pass T E I O N S C R g) (t : Turn T E I O N S C R g) → IsTurn s p t → (o : N × S) → get_elem? (opens_of s) (place_in t) ≡ some o → IsLegal (g.legal o.0) o.1 (begun_in t ++ calls_in t)
+turn_legal {N = N} {S = S} {C = C} {R = R} {g = g} s p t h o eo =
+    let f = h.has.2.each o (ap (λ (l : List (N × S)). get_elem? l t.at) h.opens ∙ eo) in
+    legal-append (g.legal o.0) o.1 (begun_in t) (calls_in t) (h.stands.lawful t.at o eo) (subst (IsLegal (g.legal o.0) (last_of o.1 (begun_in t))) (sym (ap calls_carried h.has.1)) f.1)
 
 -- a call at a place of a shelf is one call at the value there
 pub one_call : {N S C R : Type 0} (legal : N → ℕ → S → C → R → S → Type 0) (opens : List (N × S)) (n : ℕ) (seen mine seen' mine' : Histories S C R) (at : ℕ) (c : C) (r : R) (o : N × S) → get_elem? opens at ≡ some o

@@ -192,7 +192,7 @@ module _ {N S C R : Type 0} where
 
 -- the calls that the slot names are in the history, in order, the value went back, and the seat has none
 abbrev pub given_back : {X N S C R : Type 0} → (X → List (Entry S C R)) → Step X → Me X (View N S C R) → ℕ → Me X (View N S C R) → Type 0
-given_back made st m r m' = (i : ℕ) (x : X) → st.word ≡ lock_at i → m.1 ≡ (i, x) ∷ [] → (m'.1 ≡ rest m.1) × (m'.0 ≡ served m.0 i (made x))
+given_back {X} made st m r m' = (i : ℕ) (x : X) → st.word ≡ lock_at i → m.1 ≡ (i, x) ∷ [] → (m'.1 ≡ rest m.1) × (m'.0 ≡ served m.0 i (made x))
 
 -- a step on a word of advice: the seat stays as it was
 abbrev pub advised : {X V : Type 0} → Step X → Me X V → ℕ → Me X V → Type 0

@@ -4,7 +4,7 @@
 //! between them, and `Turn::end` gives the value back. Each call is an entry of the history, and all of them go in with
 //! the one store that gives the value back. A turn is not `Drop`, so it is ended in each program that compiles.
 
-ghost use Rattle.std.specs.Prelude.{◌≡◌, ◌<◌, [], unwrap_or};
+ghost use Rattle.std.specs.Prelude.{◌≡◌, ◌<◌, [], ◌++◌, unwrap_or};
 ghost use mathlib.Core.Option.{some};
 ghost use lib.ListN.{get_elem?};
 
@@ -46,7 +46,7 @@ impl<T: Kept> Shelf<T> {
 }
 
 impl<T: Kept> Turn<T> {
-    ghost use Rattle.lock_book.specs.Shown.{Belongs, CalledAll, CalledIn, IsAway, IsTurn, calls_in, number_in, number_of, opens_of, place_in};
+    ghost use Rattle.lock_book.specs.Shown.{Belongs, CalledAll, CalledIn, IsAway, IsTurn, begun_in, calls_in, number_in, number_of, opens_of, place_in, seen_of};
 
     /// Makes the next call of the turn. It waits for nobody and takes no memory.
     #[inline(always)]
@@ -68,6 +68,7 @@ impl<T: Kept> Turn<T> {
         requires away { IsAway pass.old }
         ensures own { Belongs shelf.now pass.new × (number_of pass.new ≡ number_in self) }
         ensures called { (p : _) → IsTurn shelf.now p self → CalledAll shelf.now p pass.new (place_in self) (calls_in self) }
+        ensures seen { seen_of pass.new (place_in self) ≡ begun_in self ++ calls_in self }
     {
         let Turn {
             mut seat,

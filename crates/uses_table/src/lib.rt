@@ -20,6 +20,8 @@ mod objects;
 #[cfg(test)]
 mod parts;
 #[cfg(test)]
+mod replacing;
+#[cfg(test)]
 mod states;
 #[cfg(test)]
 mod tests;
@@ -29,5 +31,7 @@ mod text;
 pub use aging::{Round, tick_one};
 #[cfg(test)]
 pub use cache::{forget, keep, own_name, recall, remember};
+#[cfg(test)]
+pub use replacing::replace_if;
 pub use lease::{Lease, LeaseCall};
 pub use text::{Text, TextCall};

@@ -6,7 +6,7 @@ ghost use Rattle.lock_book.specs.Shown.{number_of};
 ghost use Rattle.dsa_area.specs.Shown.{AreAll as AreAllOfArea, Belongs as AreaBelongs, IsArea, callers_of as area_callers, number_of as area_number};
 ghost use Rattle.dshash_parts.specs.Tables.{IsHome, IsTable, Belongs, key_words_of};
 
-use crate::{Text, forget, keep, own_name, recall};
+use crate::{Text, forget, keep, own_name, recall, replace_if};
 use dsa_area::{Area, AreaPass, area_words};
 use dshash_parts::{DsPass, Dshash};
 use dshash_scan::{count_all, list_all};
@@ -154,8 +154,13 @@ fn two_threads_share_a_cache(rt: HostRuntime) -> Result<(), Fail> {
     assert_eq!(rt; entries.len(), 400);
     assert_eq!(rt; count_all(&rt, &cache, &region, &mut pass), 400);
     let name = own_name(pass.number(), 7);
+    let (Some(text), Some(other)) = (Text::of(b"a text"), Text::of(b"another text")) else {
+        return Err(Fail::new("no text"));
+    };
+    assert!(rt; replace_if(&rt, &cache, &region, &mut pass, &name, &text, other));
+    assert!(rt; !replace_if(&rt, &cache, &region, &mut pass, &name, &text, text));
     let gone = forget(&rt, &cache, &region, &area, &mut pass, &mut apass, &name);
-    assert!(rt; gone == Text::of(b"a text"));
+    assert!(rt; gone == Some(other));
     let again = recall(&rt, &cache, &region, &mut pass, &name);
     assert!(rt; again.is_none());
     Ok(())

@@ -1,5 +1,5 @@
 use Rattle.std.proofs.Common.{◌∙◌, sym, ap}
-use Rattle.lock_book.proofs.Turns.{ended_belongs, ended_called, ended_number}
+use Rattle.lock_book.proofs.Turns.{ended_belongs, ended_called, ended_number, ended_seen}
 use Rattle.lock_book.proofs.several.Turn.end.Goals as goal
 
 pub release-requires-clause-held : goal.release-requires-clause-held
@@ -23,3 +23,12 @@ returns-clause-called g c = λ p h.
     let r = c.release.ensures in
     let b = c.give_back.ensures in
     ended_called c.args.shelf.now p c.args.self h x h.has.1 _ c.release.new.seat.me.0 (r.added x h.has.1).1 b.1 (b.0 ∙ (r.own ∙ h.table))
+
+pub returns-clause-seen : goal.returns-clause-seen
+returns-clause-seen g c =
+    let p = c.requires.own.0 in
+    let h = c.requires.own.1 in
+    let x = h.has.0 in
+    let r = c.release.ensures in
+    let b = c.give_back.ensures in
+    ended_seen c.args.shelf.now p c.args.self h x h.has.1 _ c.release.new.seat.me.0 (r.added x h.has.1).1 b.1 (b.0 ∙ (r.own ∙ h.table))

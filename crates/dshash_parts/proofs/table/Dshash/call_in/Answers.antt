@@ -1,0 +1,56 @@
+use Rattle.std.proofs.Common.{◌≡◌, ◌∙◌, ◌<◌, ◌++◌, ℕ, List, is_some, refl, sym, subst}
+use mathlib.Core.Option.{some-injective}
+use Rattle.lock_book.specs.Shown.{begun_in, calls_in, number_in, place_in}
+use Rattle.lock_book.proofs.Uses.{turn_legal}
+use Rattle.dshash_parts.specs.Asked.{AskFits, MayAsk, outcome_of}
+use Rattle.dshash_parts.specs.States.{fresh}
+use Rattle.dshash_parts.specs.Tables.{name_in}
+use Rattle.dshash_parts.specs.Turns.{TurnedIn}
+use Rattle.dshash_parts.specs.declared.asks.TableAsk.TheVariants.{Make}
+use Rattle.dshash_parts.specs.declared.histories.PartitionCalls.TheVariants.{Call}
+use Rattle.dshash_parts.proofs.Events.{no_other_make}
+use Rattle.dshash_parts.proofs.Owners.{ours}
+use Rattle.dshash_parts.proofs.Turns.{told_in}
+use Rattle.dshash_parts.proofs.table.Dshash.call_in.Goals as goal
+
+pub call-requires-clause-input : goal.call-requires-clause-input
+call-requires-clause-input g c κs within = λ o eo.
+    let t = c.args.turn.now in
+    let at = place_in t in
+    let there = c.requires.table.parts at (subst (λ n. at < n) c.requires.table.count c.requires.turn.1.place) in
+    let key = c.of.ensures in
+    let home = c.requires.key in
+    subst (λ z. (c.args.r.now ≡ z.0.region) × AskFits z.0 (Make c.hash_key.result c.of.result c.args.call.now c.args.spare) × MayAsk g.O.CellObject.stepped g.O.CellObject.may z.0.number (number_in t) (Make c.hash_key.result c.of.result c.args.call.now c.args.spare))
+    (some-injective (name_in c.args.r.now c.args.self.now at, fresh) o (sym there ∙ eo))
+    (subst (λ k. (c.args.r.now ≡ c.args.r.now) × AskFits (name_in c.args.r.now c.args.self.now at) (Make c.hash_key.result k c.args.call.now c.args.spare) × MayAsk g.O.CellObject.stepped g.O.CellObject.may at (number_in t) (Make c.hash_key.result k c.args.call.now c.args.spare)) (sym key)
+    (refl, (home.0, c.hash_key.ensures, home.1, c.requires.spare), c.requires.may))
+
+pub unreachable-requires : goal.unreachable-requires
+unreachable-requires g c =
+    let at = place_in c.args.turn.now in
+    let there = c.requires.table.parts at (subst (λ n. at < n) c.requires.table.count c.requires.turn.1.place) in
+    no_other_make (name_in c.args.r.now c.args.self.now at) c.hash_key.result c.of.result c.args.call.now c.args.spare c.call.result (c.call.ensures.output _ there) c.in_default.not-Came
+
+pub returns-clause-event : goal.returns-clause-event
+returns-clause-event g c =
+    let t = c.args.turn.now in
+    let at = place_in t in
+    let there = c.requires.table.parts at (subst (λ n. at < n) c.requires.table.count c.requires.turn.1.place) in
+    let e = c.in-Came.ensures.called in
+    let history = turn_legal c.args.self.now.shelf c.requires.turn.0 t c.requires.turn.1 _ there in
+    subst (λ z. TurnedIn g.O.CellObject.stepped t c.call.new.self (Call z c.args.call.now (is_some c.args.spare)) (outcome_of c.in-Came.out)) c.of.ensures record {
+      after = e.after;
+      calls = e.calls;
+      legal = (e.step _ there (ours g.O.CellObject.stepped g.O.CellObject.may at (begun_in t ++ calls_in t) history)).0;
+      begun = e.begun;
+      place = e.place;
+      number = e.number;
+    }
+
+pub returns-clause-handed : goal.returns-clause-handed
+returns-clause-handed g c =
+    let at = place_in c.args.turn.now in
+    c.in-Came.ensures.output _ (c.requires.table.parts at (subst (λ n. at < n) c.requires.table.count c.requires.turn.1.place))
+
+pub returns-clause-told : goal.returns-clause-told
+returns-clause-told g c = told_in g.O.CellObject.stepped c.args.turn.now c.call.new.self c.args.key.now c.args.call.now (is_some c.args.spare) c.in-Came.out (returns-clause-event g c)
