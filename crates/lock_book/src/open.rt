@@ -55,6 +55,7 @@ fn deal<T: Kept>(
         passes.push_reserved(Pass::new(rest, number));
         rest = next;
     }
+    drop(rest.into_badge());
     passes
 }
 
