@@ -21,7 +21,6 @@ abbrev pub held_slot : {X : Type 0} → X → List (ℕ × X) → X
 held_slot x [] = x
 held_slot x (y ∷ ys) = y.1
 
-
 -- of two changes at one place the second is left
 set_twice : {A : Type 0} (xs : List A) (i : ℕ) (a b : A) → set (set xs i a) i b ≡ set xs i b
 set_twice [] i a b = refl

@@ -204,11 +204,12 @@ module _ {N S C R : Type 0} (legal : N → ℕ → S → C → R → S → Type 
   runs o s m s' m' [] lawful by hs hm = (hs ∙ append-nil s, hm ∙ append-nil m)
   runs o s m s' m' (x ∷ xs) lawful by hs hm =
       let is : x ≡ as_own x = λ i. entry (by.0 i) x.call x.reply x.after in
-      let front : (l : List (Entry S C R)) → l ++ x ∷ xs ≡ (l ++ as_own x ∷ []) ++ xs = λ l. ap (λ (e : Entry S C R). l ++ e ∷ xs) is ∙ sym (append_assoc l (as_own x ∷ []) xs) in
-      (s ++ as_own x ∷ [],
-       m ++ as_own x ∷ [],
-       record { before = s; after = x.after; ends = refl; begins = starts_refl s; step = subst (λ (k : ℕ). legal o.0 k (last_of o.1 s) x.call x.reply x.after) by.0 lawful.0; own = refl },
-       runs o (s ++ as_own x ∷ []) (m ++ as_own x ∷ []) s' m' xs (subst (λ (z : S). IsLegal (legal o.0) z xs) (sym (last_snoc o.1 s (as_own x))) lawful.1) by.1 (hs ∙ front s) (hm ∙ front m))
+      let front : (l : List (Entry S C R)) → l ++ x ∷ xs ≡ (l ++ as_own x ∷ []) ++ xs = λ l. ap (λ (e : Entry S C R). l ++ e ∷ xs) is ∙ sym (append_assoc l (as_own x ∷ []) xs) in (
+        s ++ as_own x ∷ [],
+        m ++ as_own x ∷ [],
+        record { before = s; after = x.after; ends = refl; begins = starts_refl s; step = subst (λ (k : ℕ). legal o.0 k (last_of o.1 s) x.call x.reply x.after) by.0 lawful.0; own = refl },
+        runs o (s ++ as_own x ∷ []) (m ++ as_own x ∷ []) s' m' xs (subst (λ (z : S). IsLegal (legal o.0) z xs) (sym (last_snoc o.1 s (as_own x))) lawful.1) by.1 (hs ∙ front s) (hm ∙ front m),
+      )
 
   pub all_calls : (seen mine seen' mine' : Histories S C R) (at : ℕ) (e : Entry S C R) (es : List (Entry S C R)) (o : N × S) → get_elem? opens at ≡ some o → AddsAll legal opens n seen mine seen' mine' at (e ∷ es)
       → MakesAll (legal o.0) o.1 n (seen at) (mine at) (seen' at) (mine' at) (map told_by (e ∷ es))

@@ -57,7 +57,14 @@ impl<T: Kept> Turn<T> {
         ensures called { CalledIn shelf.now self.old self.new (unwrap_or (T.chosen input result) (T.call input)) (T.reply result) }
         ensures output { (o : _) → get_elem? (opens_of shelf.now) (place_in self.old) ≡ some o → T.out_fits o.0 input result }
     {
-        serve(&shelf.board, &mut self.seat, self.number, self.at, env, input)
+        serve(
+            &shelf.board,
+            &mut self.seat,
+            self.number,
+            self.at,
+            env,
+            input,
+        )
     }
 
     /// Gives the value back, with all calls of the turn in its history, and the pass its seat. It wakes one of those

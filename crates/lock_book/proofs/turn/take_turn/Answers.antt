@@ -35,10 +35,12 @@ release-requires-clause-held g c κs within =
     let b = c.begin.ensures.begun in
     let s = c.serve-output.ensures.served in
     let call = unwrap_or (K.chosen c.args.input c.serve-output.result) (K.call c.args.input) in
-    let reply = K.reply c.serve-output.result in
-    (s.1, s.3,
-    fits_end (λ x. K.name x.value) (λ x. K.state x.value) K.legal c.args.at _ _ c.requires.own.1 d (λ x. made_of x.made) c.begin.new.seat.me c.serve-output.new.seat.me
-    c.begin.ensures.own.1 c.serve-output.ensures.own.1 c.args.number c.requires.own.2 b.0 b.1 s.0 s.1 b.2 b.3 s.2 (ap K.name b.4) (ap K.state b.4) b.5 call reply s.4 s.5 s.7)
+    let reply = K.reply c.serve-output.result in (
+      s.1,
+      s.3,
+      fits_end (λ x. K.name x.value) (λ x. K.state x.value) K.legal c.args.at _ _ c.requires.own.1 d (λ x. made_of x.made) c.begin.new.seat.me c.serve-output.new.seat.me
+          c.begin.ensures.own.1 c.serve-output.ensures.own.1 c.args.number c.requires.own.2 b.0 b.1 s.0 s.1 b.2 b.3 s.2 (ap K.name b.4) (ap K.state b.4) b.5 call reply s.4 s.5 s.7,
+    )
 
 pub returns-clause-own : goal.returns-clause-own
 returns-clause-own g c =
