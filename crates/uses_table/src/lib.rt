@@ -31,7 +31,7 @@ mod text;
 pub use aging::{Round, tick_one};
 #[cfg(test)]
 pub use cache::{forget, keep, own_name, recall, remember};
+pub use lease::{Lease, LeaseCall};
 #[cfg(test)]
 pub use replacing::replace_if;
-pub use lease::{Lease, LeaseCall};
 pub use text::{Text, TextCall};

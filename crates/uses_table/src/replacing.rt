@@ -34,7 +34,8 @@ fn is_still(
 {
     match cache.call_in(r, turn, name, &TextCall::Get, None) {
         CoreOut::Done {
-            reply: Some(text), ..
+            reply: Some(text),
+            ..
         } => text == *expected,
         _ => false,
     }
