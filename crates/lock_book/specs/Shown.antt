@@ -3,7 +3,10 @@ use Rattle.std.specs.Prelude.{◌≡◌, ◌≢◌, ℕ, ◌+◌, ◌<◌, ◌�
 use mathlib.Core.Option.{some}
 use lib.ListN.{get_elem?}
 use Rattle.lock_book.specs.declared.kept.Kept.{Ghosts}
+use Rattle.atomic_table.specs.Seated.{TableId}
+use Rattle.atomic_table.specs.Table.{Me}
 use Rattle.lock_book.specs.declared.view.Entry.{Entry}
+use Rattle.lock_book.specs.declared.view.View.{View}
 use Rattle.lock_book.specs.declared.shelf.Pass.{Pass}
 use Rattle.lock_book.specs.declared.shelf.Shelf.{Shelf}
 use Rattle.lock_book.specs.declared.close.Closed.{Closed}
@@ -95,21 +98,26 @@ module _ {T E I O N S C R : Type 0} {g : Ghosts T E I O N S C R} where
   abbrev pub calls_in : Turn T E I O N S C R g → List (Entry S C R)
   calls_in t = calls_carried t.seat.me.1
 
-  -- A turn at this shelf, of the pass that was p when it began: it has the value, with its calls so far, which are legal
-  -- after the history that it began with, and this begins with what the pass had seen
-  pub record IsTurn (s : Shelf T E I O N S C R) (p : Pass T E I O N S C R g) (t : Turn T E I O N S C R g) : Type 0 where
-    pub table : t.seat.table_id ≡ s.board.shared.table_id
-    pub place : place_in t < count_of s
-    pub number : number_in t ≡ number_of p
-    pub opens : t.seat.me.0.opens ≡ opens_of s
-    pub callers : t.seat.me.0.callers ≡ callers_of s
-    pub one : length t.seat.me.0.owns ≡ 1
-    pub holds : t.seat.me.0.stage ≡ Holding t.at
-    pub has : (x : Slot T S C R) × (t.seat.me.1 ≡ (t.at, x) ∷ []) × Fits (λ x. g.name x.value) (λ x. g.state x.value) g.legal (λ x. made_of x.made) t.seat.me.0 t.at x
-    pub stands : IsPass g.legal (opens_of s) (callers_of s) (number_in t) (seen_at t.seat.me.0) (mine_at t.seat.me.0 0)
-    pub begins : StartsWith (begun_in t) (seen_of p t.at)
-    pub others : (j : ℕ) → j ≢ t.at → seen_at t.seat.me.0 j ≡ seen_of p j
-    pub mine : (j : ℕ) → mine_at t.seat.me.0 0 j ≡ mine_of p j
+  -- The seat with this view and this slot has the value `at` of the shelf, in a turn of the pass that was p when it
+  -- began: it has the calls of the turn so far, which are legal after the history that the turn began with, and this
+  -- begins with what the pass had seen
+  pub record HasTurn (s : Shelf T E I O N S C R) (p : Pass T E I O N S C R g) (id : TableId) (me : Me (Slot T S C R) (View N S C R)) (at : ℕ) : Type 0 where
+    pub table : id ≡ s.board.shared.table_id
+    pub place : at < count_of s
+    pub number : me.0.from ≡ number_of p
+    pub opens : me.0.opens ≡ opens_of s
+    pub callers : me.0.callers ≡ callers_of s
+    pub one : length me.0.owns ≡ 1
+    pub holds : me.0.stage ≡ Holding at
+    pub has : (x : Slot T S C R) × (me.1 ≡ (at, x) ∷ []) × Fits (λ x. g.name x.value) (λ x. g.state x.value) g.legal (λ x. made_of x.made) me.0 at x
+    pub stands : IsPass g.legal (opens_of s) (callers_of s) me.0.from (seen_at me.0) (mine_at me.0 0)
+    pub begins : StartsWith (seen_at me.0 at) (seen_of p at)
+    pub others : (j : ℕ) → j ≢ at → seen_at me.0 j ≡ seen_of p j
+    pub mine : (j : ℕ) → mine_at me.0 0 j ≡ mine_of p j
+
+  -- a turn at this shelf, of the pass that was p when it began
+  abbrev pub IsTurn : Shelf T E I O N S C R → Pass T E I O N S C R g → Turn T E I O N S C R g → Type 0
+  IsTurn s p t = HasTurn s p t.seat.table_id t.seat.me t.at
 
   -- What a call c with the reply r made of the turn t, which is u afterwards: it is the next of the turn's calls, and
   -- legal right after those before it
