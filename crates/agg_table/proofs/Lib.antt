@@ -7,3 +7,4 @@ pub mod Listed
 pub mod Standing
 pub mod Drains
 pub mod Paired
+pub mod Ended

@@ -17,3 +17,4 @@ pub mod Takings
 pub mod Tries
 pub mod Visits
 pub mod Homes
+pub mod Causes

@@ -17,3 +17,4 @@ pub mod Done
 pub mod Takes
 pub mod Tries
 pub mod Uses
+pub mod Within

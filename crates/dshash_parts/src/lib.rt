@@ -7,7 +7,8 @@
 //! of a key are, in one history, those of one cell, while partitions move between any two of them (`laws`).
 //!
 //! `numbered` is the locked value, `turns` one event at it, `requests` one request to the area; `growing`, `calls`,
-//! `finding` and `taking` put these together. `trying` has the turns that will not wait. `open` and `close` are how a
+//! `finding` and `taking` put these together. `within` has the calls that bound the chains, and `trying` the turns that will
+//! not wait. `open` and `close` are how a
 //! table begins and ends, `origin` is how clauses know its area, and `listing` lists its entries.
 
 #![tactic(auto)]
@@ -30,6 +31,7 @@ mod taking;
 mod trying;
 mod turns;
 mod visiting;
+mod within;
 
 pub use asks::{TableAnswer, TableAsk};
 pub use close::ClosedTable;
@@ -42,3 +44,4 @@ pub use numbered::Numbered;
 pub use open::DsNew;
 pub use table::{DsPass, Dshash};
 pub use trying::Busy;
+pub use within::NoRoom;
