@@ -6,10 +6,9 @@ use Rattle.dshash_core.specs.Key.{hash_of}
 use Rattle.dshash_core.specs.Cells.{partition_of}
 use Rattle.dshash_core.specs.Outcome.{HandsOut}
 use Rattle.dshash_core.specs.declared.outcome.CoreOut.TheVariants.{Done, NeedItem, TooFull}
-use Rattle.dshash_parts.specs.Tables.{IsSpare, item_of, size_at}
+use Rattle.dshash_parts.specs.Tables.{item_of, size_at}
 use Rattle.dshash_parts.specs.Traces.{sight_of}
 use Rattle.dshash_parts.specs.Promises.{one_if}
-use Rattle.dshash_parts.specs.Rounds.{Underway}
 use Rattle.dshash_parts.proofs.Uses.{partition_low, seen_cells, seen_roomy}
 use Rattle.dshash_parts.proofs.Owners.{allowed, lawful, own_cells}
 use Rattle.dshash_parts.proofs.Rounds.{starts}
