@@ -11,6 +11,7 @@ ghost use Rattle.split_run.specs.Causes.{IsCause};
 ghost use Rattle.split_run.specs.Pieces.{piece_records, piece_rows};
 ghost use Rattle.part_run.specs.Carrying.{spread};
 
+use crate::found::spread_found;
 use csv_rows::{Record, RowStore, rows_as};
 use par_model::BoundPlan;
 use partial_agg::{BlockAnswer, RowBuffer, RowStatus};
@@ -20,6 +21,29 @@ use std::alloc::{AllocError, Global};
 
 /// Reads the rows of a piece, puts them into lists, and gives their number. The store of the rows is gone afterwards.
 pub(crate) fn spread_piece(
+    alloc: Global,
+    piece: &Window,
+    plan: &BoundPlan,
+    lists: &mut PartLists,
+) -> Result<u64, BlockAnswer>
+    requires columns { HasColumns plan.now (header_width (piece_records piece.now)) }
+    ensures spread { OnOk result (lists.new ≡ spread plan.now lists.old (piece_rows piece.now)) }
+    ensures accepted { OnOk result (All (IsAccepted plan.now (header_width (piece_records piece.now))) (piece_rows piece.now)) }
+    ensures count { IfOk result (λ count. count ≡ length (piece_rows piece.now)) }
+    ensures refused { IfErr result (IsCause plan.now (piece_records piece.now)) }
+{
+    if piece.reading().is_plain() {
+        match spread_found(alloc, piece.table(), plan, lists) {
+            Ok(Some(count)) => return Ok(count),
+            Ok(None) => {}
+            Err(why) => return Err(why),
+        }
+    }
+    spread_stored(alloc, piece, plan, lists)
+}
+
+/// Reads the rows of a piece into a store, puts them into lists, and gives their number.
+fn spread_stored(
     alloc: Global,
     piece: &Window,
     plan: &BoundPlan,

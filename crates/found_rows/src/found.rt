@@ -1,0 +1,246 @@
+//! The records of a text, one after the other.
+
+ghost use Rattle.std.specs.Prelude.{◌≡◌, ◌≢◌, ◌≤◌, ◌<◌, ◌+◌, ◌++◌, ◌∷◌, [], ℕ, List, IfOk, IfSome, Ok, get_or, length, slice_index};
+ghost use Rattle.csv_rows.specs.Plain.{NoReturn};
+ghost use Rattle.csv_rows.specs.Records.{records_of};
+ghost use Rattle.found_rows.specs.Found.{BeginsWide, records_from};
+ghost use Rattle.found_rows.specs.Masks.{IsBlock};
+ghost use Rattle.found_rows.specs.Spans.{AreSpans, fields_in};
+ghost use Rattle.found_rows.specs.Written.{IsWritten, between, read_as};
+ghost use Rattle.found_rows.specs.Closing.{IsClosed, IsPaired};
+ghost use Rattle.found_rows.specs.declared.found.Found.TheVariants as found;
+
+use crate::block::{Block, block_at, end_from, quote_from};
+use crate::spans::{MOST_FIELDS, Spans, no_spans};
+use csv_rows::without_mark;
+use memchr::memchr;
+use std::alloc::{AllocError, Global};
+use std::marker::Model;
+
+/// What a scan comes to.
+#[derive(Clone, Copy, PartialEq, Eq, Debug, Drop)]
+pub enum Found {
+    /// No more record.
+    End,
+    /// A record.
+    Row,
+    /// A record of more than [`MOST_FIELDS`] fields, which is not given.
+    Wide,
+}
+
+/// The record that was found last, and those that are left.
+#[derive(Drop)]
+pub struct FoundRows<'a> {
+    text: &'a [u8],
+    /// Where what is left begins.
+    from: usize,
+    block: Block,
+    spans: Spans,
+}
+
+impl<'a> Model for FoundRows<'a> {
+    ghost use Rattle.found_rows.specs.Found.{IsScan, Seen, seen};
+
+    ghost Value = { Seen };
+
+    ghost view = { λ f. seen f.text.now f.from f.spans };
+
+    ghost invariant = { λ f. IsScan f.text.now f.from f.block f.spans };
+}
+
+impl<'a> FoundRows<'a> {
+    /// Before the records of some bytes, unless there is a carriage return among these. Takes no memory; the time is that
+    /// of a search for a byte.
+    pub fn of(alloc: Global, bytes: &'a [u8]) -> Option<FoundRows<'a>>
+        ensures { IfSome result (λ rows. rows.left ≡ records_of bytes.entry.now) }
+    {
+        let text = without_mark(bytes);
+        match memchr(b'\r', text) {
+            Some(_return) => None,
+            None => Some(FoundRows {
+                text,
+                from: 0,
+                block: block_at(text, 0),
+                spans: no_spans(alloc),
+            }),
+        }
+    }
+
+    /// Finds the next record. The time is linear in its bytes; memory is taken only for fields that are copied. After an
+    /// `Err` no record is left.
+    #[inline(always)]
+    pub fn next(&mut self) -> Result<Found, AllocError>
+        ensures row { result ≡ Ok found.Row → self.old.left ≡ self.new.row ∷ self.new.left }
+        ensures wide { result ≡ Ok found.Wide → BeginsWide self.old.left }
+        ensures end { result ≡ Ok found.End → self.old.left ≡ [] }
+    {
+        let start = past_lines(self.text, self.from);
+        match find_fields(self.text, start, &mut self.block, &mut self.spans) {
+            Ok((found, from)) => {
+                self.from = from;
+                Ok(found)
+            }
+            Err(AllocError) => {
+                self.from = self.text.len();
+                self.spans.clear();
+                Err(AllocError)
+            }
+        }
+    }
+
+    /// How many fields the record has that was found last.
+    #[inline(always)]
+    pub fn width(&self) -> usize
+        ensures { result ≡ length self.now.row }
+    {
+        self.spans.count()
+    }
+
+    /// A field of it.
+    #[inline(always)]
+    pub fn field(&self, at: u32) -> &[u8]
+        requires { at < length self.now.row }
+        ensures { result.now ≡ get_or self.now.row at [] }
+    {
+        self.spans.field(self.text, at)
+    }
+}
+
+/// Behind the line feeds that a text has at a place.
+#[inline(always)]
+fn past_lines(text: &[u8], from: usize) -> usize
+    requires { from ≤ length text.now }
+    ensures low { from ≤ result }
+    ensures high { result ≤ length text.now }
+    ensures other { result < length text.now → slice_index text.now result ≢ 10 }
+    ensures records { records_from text.now result ≡ records_from text.now from }
+{
+    let mut at = from;
+    'lines: while at < text.len() && text[at] == b'\n' {
+        at += 1;
+    }
+    at
+}
+
+/// Finds the fields of the record that begins at a place, and where the next one is to be looked for.
+#[inline(always)]
+fn find_fields(
+    text: &[u8],
+    start: usize,
+    block: &mut Block,
+    spans: &mut Spans,
+) -> Result<(Found, usize), AllocError>
+    requires lines { NoReturn text.now }
+    requires within { start ≤ length text.now }
+    requires begins { start < length text.now → slice_index text.now start ≢ 10 }
+    requires block { IsBlock text.now block.old }
+    requires reached { block.old.base ≤ start }
+    ensures block { IsBlock text.now block.new }
+    ensures reached { IfOk result (λ r. block.new.base ≤ r.1) }
+    ensures within { IfOk result (λ r. r.1 ≤ length text.now) }
+    ensures spans { IfOk result (λ r. AreSpans text.now spans.new) }
+    ensures row { IfOk result (λ r. r.0 ≡ found.Row → records_from text.now start ≡ fields_in text.now spans.new ∷ records_from text.now r.1) }
+    ensures wide { IfOk result (λ r. r.0 ≡ found.Wide → BeginsWide (records_from text.now start)) }
+    ensures end { IfOk result (λ r. r.0 ≡ found.End → records_from text.now start ≡ []) }
+{
+    spans.clear();
+    if start == text.len() {
+        return Ok((Found::End, start));
+    }
+    let mut from = start;
+    'fields: while spans.count() < MOST_FIELDS {
+        let end = next_field(text, from, block, spans)?;
+        if end == text.len() {
+            return Ok((Found::Row, end));
+        }
+        from = end + 1;
+        if text[end] == b'\n' {
+            return Ok((Found::Row, from));
+        }
+    }
+    Ok((Found::Wide, from))
+}
+
+/// Puts the field that begins at a place after the others, and says where it ends.
+#[inline(always)]
+fn next_field(
+    text: &[u8],
+    from: usize,
+    block: &mut Block,
+    spans: &mut Spans,
+) -> Result<usize, AllocError>
+    requires lines { NoReturn text.now }
+    requires within { from ≤ length text.now }
+    requires block { IsBlock text.now block.old }
+    requires reached { block.old.base ≤ from }
+    requires spans { AreSpans text.now spans.old }
+    requires room { length (fields_in text.now spans.old) < 64 }
+    ensures block { IsBlock text.now block.new }
+    ensures reached { IfOk result (λ end. block.new.base ≤ end) }
+    ensures spans { IfOk result (λ end. AreSpans text.now spans.new) }
+    ensures written { IfOk result (λ end. IsWritten text.now from end) }
+    ensures field { IfOk result (λ end. fields_in text.now spans.new ≡ fields_in text.now spans.old ++ read_as (between from end text.now) ∷ []) }
+{
+    if from < text.len() && text[from] == b'"' {
+        return quoted_field(text, from, block, spans);
+    }
+    let end = end_from(text, block, from);
+    spans.push(text, from, end);
+    Ok(end)
+}
+
+/// Puts the field that begins with a quote at a place after the others, and says where it ends.
+#[inline(always)]
+fn quoted_field(
+    text: &[u8],
+    from: usize,
+    block: &mut Block,
+    spans: &mut Spans,
+) -> Result<usize, AllocError>
+    requires lines { NoReturn text.now }
+    requires within { from < length text.now }
+    requires quote { slice_index text.now from ≡ 34 }
+    requires block { IsBlock text.now block.old }
+    requires reached { block.old.base ≤ from }
+    requires spans { AreSpans text.now spans.old }
+    requires room { length (fields_in text.now spans.old) < 64 }
+    ensures block { IsBlock text.now block.new }
+    ensures reached { IfOk result (λ end. block.new.base ≤ end) }
+    ensures spans { IfOk result (λ end. AreSpans text.now spans.new) }
+    ensures written { IfOk result (λ end. IsWritten text.now from end) }
+    ensures field { IfOk result (λ end. fields_in text.now spans.new ≡ fields_in text.now spans.old ++ read_as (between from end text.now) ∷ []) }
+{
+    let quote = quote_from(text, block, from + 1);
+    let close = past_pairs(text, block, quote);
+    let end = end_from(text, block, close);
+    if close == quote + 1 && end == close {
+        spans.push(text, from + 1, quote);
+    } else {
+        spans.push_written(text, &text[from..end])?;
+    }
+    Ok(end)
+}
+
+/// Behind the quote that closes a field, of which this place is that of the first quote after the one that opens it, or the
+/// end of the text.
+#[inline(always)]
+fn past_pairs(text: &[u8], block: &mut Block, first: usize) -> usize
+    requires within { first ≤ length text.now }
+    requires quote { first < length text.now → slice_index text.now first ≡ 34 }
+    requires block { IsBlock text.now block.old }
+    requires reached { block.old.base ≤ first }
+    ensures low { first ≤ result }
+    ensures within { result ≤ length text.now }
+    ensures block { IsBlock text.now block.new }
+    ensures reached { block.new.base ≤ result }
+    ensures closed { (open : ℕ) → open ≤ first → IsPaired text.now open first → IsClosed text.now open result }
+{
+    let mut quote = first;
+    'pairs: while quote + 1 < text.len() && text[quote + 1] == b'"' {
+        quote = quote_from(text, block, quote + 2);
+    }
+    if quote == text.len() {
+        return quote;
+    }
+    quote + 1
+}
