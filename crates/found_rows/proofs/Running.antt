@@ -1,8 +1,8 @@
 -- csv's machine, over bytes of which none ends a field, and at the byte behind them.
-use Rattle.std.proofs.Common.{◌≡◌, ◌<◌, ◌+◌, ◌∙◌, ◌++◌, ℕ, Bool, true, false, List, [], ◌∷◌, length, refl, sym, ap, inl, inr, arith, append_assoc, append-nil, length-append}
+use Rattle.std.proofs.Common.{◌≡◌, ◌<◌, ◌≤◌, ◌+◌, ◌∙◌, ◌++◌, ℕ, Bool, true, false, List, [], ◌∷◌, length, refl, sym, ap, inl, inr, arith, append_assoc, append-nil, length-append}
 use Rattle.std.specs.Prelude.{◌==◌, ◌||◌, if◌then◌else◌}
 use Rattle.std.proofs.lemmas.Bool.{cases_Bool}
-use Rattle.csv.specs.Machine.{field_after, fields_after, in_field, is_end, start_field, step}
+use Rattle.csv.specs.Machine.{ends_at_end, field_after, fields_after, in_field, is_end, start_field, step}
 use Rattle.csv.specs.Reading.{default_config}
 use Rattle.csv.specs.declared.parser.Action.{Action}
 use Rattle.csv.specs.declared.parser.Action.TheVariants as act
@@ -181,3 +181,15 @@ goes-on s fields field (c ∷ xs) w =
           let more = goes-on t (fields_after a fields field) (field_after a c field) xs (step-within s c w e) in
           rw e (record { first = more.first; others = more.others; are = more.are; longer = omega (arith, more.longer, fields-kept a fields field) })
     ]
+
+-- ---- how many records there are
+
+pub few-records : (s : State) (fields : List (List ℕ)) (field xs : List ℕ) → length (all_from s fields field xs) ≤ length xs + length xs + 1
+unfolding all_from
+few-records s fields field [] = elim (cases_Bool (ends_at_end s)) [ inl e ↦ rw e (omega arith) | inr e ↦ rw e (omega arith) ]
+few-records s fields field (c ∷ xs) =
+    let a = (step default_config s c).1 in
+    let t = (step default_config s c).0 in
+    let ended = few-records t [] [] xs in
+    let more = few-records t (fields_after a fields field) (field_after a c field) xs in
+    elim (cases_Bool (is_end a)) [ inl e ↦ rw e (omega (arith, ended)) | inr e ↦ rw e (omega (arith, more)) ]

@@ -5,3 +5,4 @@ pub mod Inside
 pub mod Spans
 pub mod Found
 pub mod Key
+pub mod Refused

@@ -1,10 +1,12 @@
 //! The records of a text, one after the other.
 
-ghost use Rattle.std.specs.Prelude.{◌≡◌, ◌≢◌, ◌≤◌, ◌<◌, ◌+◌, ◌++◌, ◌∷◌, [], ℕ, List, IfOk, IfSome, Ok, get_or, length, slice_index};
+ghost use Rattle.std.specs.Prelude.{◌≡◌, ◌≢◌, ◌≤◌, ◌<◌, ◌+◌, ◌^◌, ◌++◌, ◌∷◌, [], ℕ, List, IfErr, IfOk, IfSome, Ok, false, get_or, length, slice_index, true};
+ghost use Rattle.par_model.specs.Plan.{Plan};
 ghost use Rattle.csv_rows.specs.Plain.{NoReturn};
 ghost use Rattle.csv_rows.specs.Records.{records_of};
 ghost use Rattle.found_rows.specs.Found.{BeginsWide, records_from};
 ghost use Rattle.found_rows.specs.Masks.{IsBlock};
+ghost use Rattle.found_rows.specs.Refused.{SomeRefused};
 ghost use Rattle.found_rows.specs.Spans.{AreSpans, fields_in};
 ghost use Rattle.found_rows.specs.Written.{IsWritten, between, read_as};
 ghost use Rattle.found_rows.specs.Closing.{IsClosed, IsPaired};
@@ -14,6 +16,8 @@ use crate::block::{Block, block_at, end_from, quote_from};
 use crate::spans::{MOST_FIELDS, Spans, no_spans};
 use csv_rows::without_mark;
 use memchr::memchr;
+use par_model::WIDTH_CAUSE;
+use partial_agg::BlockAnswer;
 use std::alloc::{AllocError, Global};
 use std::marker::Model;
 
@@ -52,7 +56,8 @@ impl<'a> FoundRows<'a> {
     /// Before the records of some bytes, unless there is a carriage return among these. Takes no memory; the time is that
     /// of a search for a byte.
     pub fn of(alloc: Global, bytes: &'a [u8]) -> Option<FoundRows<'a>>
-        ensures { IfSome result (λ rows. rows.left ≡ records_of bytes.entry.now) }
+        ensures left { IfSome result (λ rows. rows.left ≡ records_of bytes.entry.now) }
+        ensures few { IfSome result (λ rows. length rows.left < 2 ^ 64) }
     {
         let text = without_mark(bytes);
         match memchr(b'\r', text) {
@@ -88,10 +93,33 @@ impl<'a> FoundRows<'a> {
         }
     }
 
+    /// Finds the next record of a table with so many columns, if there is one. One that has too many fields to be given is
+    /// refused for its width. After an `Err` no record is left.
+    #[inline(always)]
+    pub fn next_row(&mut self, width: usize) -> Result<bool, BlockAnswer>
+        requires { width ≤ MOST_FIELDS }
+        ensures row { result ≡ Ok true → self.old.left ≡ self.new.row ∷ self.new.left }
+        ensures end { result ≡ Ok false → self.old.left ≡ [] }
+        ensures refused { IfErr result (λ why. (plan : Plan) → SomeRefused plan width self.old.left why) }
+    {
+        let _width = width;
+        match self.next() {
+            Ok(Found::Row) => Ok(true),
+            Ok(Found::End) => Ok(false),
+            Ok(Found::Wide) => Err(BlockAnswer::Row {
+                row: 1,
+                cause: WIDTH_CAUSE,
+                item: 0,
+            }),
+            Err(AllocError) => Err(BlockAnswer::Memory),
+        }
+    }
+
     /// How many fields the record has that was found last.
     #[inline(always)]
     pub fn width(&self) -> usize
-        ensures { result ≡ length self.now.row }
+        ensures width { result ≡ length self.now.row }
+        ensures few { result ≤ MOST_FIELDS }
     {
         self.spans.count()
     }

@@ -1,14 +1,15 @@
 //! The rows of a piece, put into lists as they are found, with no store between.
 
-ghost use Rattle.std.specs.Prelude.{◌≡◌, All, IfErr, IfNone, IfOk, IfSome, OnOk, OnSome, drop, length};
+ghost use Rattle.std.specs.Prelude.{◌≡◌, ◌<◌, ◌^◌, ◌∷◌, [], All, IfErr, IfNone, IfOk, IfSome, OnOk, OnSome, drop, length};
 ghost use Rattle.csv_rows.specs.Records.{records_of};
 ghost use Rattle.par_model.specs.Columns.{HasColumns};
 ghost use Rattle.partial_agg.specs.Rows.{IsAccepted, header_width};
+ghost use Rattle.found_rows.specs.Refused.{SomeRefused};
 ghost use Rattle.split_run.specs.Causes.{IsCause};
 ghost use Rattle.part_run.specs.Carrying.{spread};
 
 use found_rows::{Found, FoundBuffer, FoundRows};
-use par_model::{BoundPlan, WIDTH_CAUSE};
+use par_model::BoundPlan;
 use partial_agg::{BlockAnswer, RowStatus};
 use row_lists::PartLists;
 use std::alloc::{AllocError, Global};
@@ -47,6 +48,7 @@ fn spread_left(
     lists: &mut PartLists,
 ) -> Result<u64, BlockAnswer>
     requires columns { HasColumns plan.now (length rows.old.row) }
+    requires few { length rows.old.left < 2 ^ 64 }
     ensures spread { OnOk result (lists.new ≡ spread plan.now lists.old rows.old.left) }
     ensures accepted { OnOk result (All (IsAccepted plan.now (length rows.old.row)) rows.old.left) }
     ensures count { IfOk result (λ count. count ≡ length rows.old.left) }
@@ -55,26 +57,11 @@ fn spread_left(
     let width = rows.width();
     let mut buffer = FoundBuffer::new();
     let mut count = 0;
-    'rows: while next_row(rows)? {
+    'rows: while rows.next_row(width)? {
         spread_row(&mut buffer, rows, width, plan, lists)?;
         count += 1;
     }
     Ok(count)
-}
-
-/// Finds the next row, if there is one. A row of too many fields to be given is refused.
-#[inline(always)]
-fn next_row(rows: &mut FoundRows<'_>) -> Result<bool, BlockAnswer> {
-    match rows.next() {
-        Ok(Found::Row) => Ok(true),
-        Ok(Found::End) => Ok(false),
-        Ok(Found::Wide) => Err(BlockAnswer::Row {
-            row: 1,
-            cause: WIDTH_CAUSE,
-            item: 0,
-        }),
-        Err(AllocError) => Err(BlockAnswer::Memory),
-    }
 }
 
 /// Puts the row that was found last into a list, if it is kept.
@@ -85,7 +72,12 @@ fn spread_row(
     width: usize,
     plan: &BoundPlan,
     lists: &mut PartLists,
-) -> Result<(), BlockAnswer> {
+) -> Result<(), BlockAnswer>
+    requires columns { HasColumns plan.now width }
+    ensures spread { OnOk result (lists.new ≡ spread plan.now lists.old (rows.now.row ∷ [])) }
+    ensures accepted { OnOk result (IsAccepted plan.now width rows.now.row) }
+    ensures refused { IfErr result (SomeRefused plan.now width (rows.now.row ∷ [])) }
+{
     match buffer.read(rows, width, plan) {
         RowStatus::Refused(refusal) => Err(BlockAnswer::Row {
             row: 1,

@@ -1,14 +1,15 @@
 //! The rows of a piece, added to a map as they are found, with no store between.
 
-ghost use Rattle.std.specs.Prelude.{◌≡◌, All, IfErr, IfNone, IfOk, IfSome, OnOk, OnSome, drop, length};
+ghost use Rattle.std.specs.Prelude.{◌≡◌, ◌<◌, ◌^◌, ◌∷◌, [], All, IfErr, IfNone, IfOk, IfSome, OnOk, OnSome, drop, length};
 ghost use Rattle.csv_rows.specs.Records.{records_of};
 ghost use Rattle.par_model.specs.Columns.{HasColumns};
 ghost use Rattle.partial_agg.specs.Groups.{with_rows};
 ghost use Rattle.partial_agg.specs.Rows.{IsAccepted, header_width};
+ghost use Rattle.found_rows.specs.Refused.{SomeRefused};
 ghost use Rattle.split_run.specs.Causes.{IsCause};
 
 use found_rows::{Found, FoundBuffer, FoundRows};
-use par_model::{BoundPlan, WIDTH_CAUSE};
+use par_model::BoundPlan;
 use partial_agg::{BlockAnswer, GroupMap, RowStatus};
 use std::alloc::{AllocError, Global};
 
@@ -46,6 +47,7 @@ fn add_left(
     groups: &mut GroupMap,
 ) -> Result<u64, BlockAnswer>
     requires columns { HasColumns plan.now (length rows.old.row) }
+    requires few { length rows.old.left < 2 ^ 64 }
     ensures added { OnOk result (groups.new ≡ with_rows plan.now groups.old rows.old.left) }
     ensures accepted { OnOk result (All (IsAccepted plan.now (length rows.old.row)) rows.old.left) }
     ensures count { IfOk result (λ count. count ≡ length rows.old.left) }
@@ -54,26 +56,11 @@ fn add_left(
     let width = rows.width();
     let mut buffer = FoundBuffer::new();
     let mut count = 0;
-    'rows: while next_row(rows)? {
+    'rows: while rows.next_row(width)? {
         add_row(&mut buffer, rows, width, plan, groups)?;
         count += 1;
     }
     Ok(count)
-}
-
-/// Finds the next row, if there is one. A row of too many fields to be given is refused.
-#[inline(always)]
-fn next_row(rows: &mut FoundRows<'_>) -> Result<bool, BlockAnswer> {
-    match rows.next() {
-        Ok(Found::Row) => Ok(true),
-        Ok(Found::End) => Ok(false),
-        Ok(Found::Wide) => Err(BlockAnswer::Row {
-            row: 1,
-            cause: WIDTH_CAUSE,
-            item: 0,
-        }),
-        Err(AllocError) => Err(BlockAnswer::Memory),
-    }
 }
 
 /// Adds the row that was found last to a map, if it is kept.
@@ -84,7 +71,12 @@ fn add_row(
     width: usize,
     plan: &BoundPlan,
     groups: &mut GroupMap,
-) -> Result<(), BlockAnswer> {
+) -> Result<(), BlockAnswer>
+    requires columns { HasColumns plan.now width }
+    ensures added { OnOk result (groups.new ≡ with_rows plan.now groups.old (rows.now.row ∷ [])) }
+    ensures accepted { OnOk result (IsAccepted plan.now width rows.now.row) }
+    ensures refused { IfErr result (SomeRefused plan.now width (rows.now.row ∷ [])) }
+{
     match buffer.read(rows, width, plan) {
         RowStatus::Refused(refusal) => Err(BlockAnswer::Row {
             row: 1,

@@ -1,6 +1,7 @@
 //! The rows of one piece, which are read into a store and added to a map.
 
-ghost use Rattle.std.specs.Prelude.{◌≡◌, All, IfErr, IfOk, OnOk, drop, length};
+ghost use Rattle.std.specs.Prelude.{◌≡◌, All, IfErr, IfOk, OnOk, drop, length, true};
+ghost use Rattle.csv_rows.specs.Readings.{is_plain};
 ghost use Rattle.par_model.specs.Columns.{HasColumns};
 ghost use Rattle.partial_agg.specs.Groups.{with_rows};
 ghost use Rattle.partial_agg.specs.Rows.{IsAccepted, header_width};

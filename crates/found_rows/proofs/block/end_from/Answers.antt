@@ -22,8 +22,8 @@ blocks-preserved c =
       before = subst (λ n. NoneIn is_separator c.args.text.now c.args.from n) (sym c.block_at.ensures.base) before;
     }
 
-pub returns-then-clause-first : goal.returns-then-clause-first
-returns-then-clause-first c =
+pub returns-then-text-block-le-BLOCK-clause-first : goal.returns-then-clause-first
+returns-then-text-block-le-BLOCK-clause-first c =
     let inv = c.blocks.invariant in
     let none : c.blocks.mask ≡ 0 = search rules in
     first-end is_separator c.args.text.now c.blocks.block.masks.ends c.blocks.block.base c.args.from c.blocks.mask inv.block.ends inv.since inv.before none (omega arith) c.requires.within
