@@ -1,5 +1,5 @@
 -- The bits of a mask from a place on, and those of a byte.
-use Rattle.std.proofs.Common.{◌≡◌, ◌<◌, ◌≤◌, ◌+◌, ◌-◌, ◌^◌, ◌∙◌, ◌↔◌, ◌×◌, ℕ, true, refl, sym, ap, inl, inr, arith, w64, bit_and}
+use Rattle.std.proofs.Common.{◌≡◌, ◌<◌, ◌≤◌, ◌+◌, ◌-◌, ◌^◌, ◌∙◌, ◌↔◌, ℕ, true, refl, sym, ap, inl, inr, arith, w64, bit_and}
 use Rattle.std.specs.Prelude.{◌==◌}
 use Rattle.std.specs.Int.{bit_at, bit_not}
 use Rattle.std.proofs.Common.{pow_pos, pow_mono}

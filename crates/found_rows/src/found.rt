@@ -1,11 +1,11 @@
 //! The records of a text, one after the other.
 
-ghost use Rattle.std.specs.Prelude.{◌≡◌, ◌≢◌, ◌≤◌, ◌<◌, ◌+◌, ◌^◌, ◌++◌, ◌∷◌, [], ℕ, List, IfErr, IfOk, IfSome, Ok, false, get_or, length, slice_index, true};
+ghost use Rattle.std.specs.Prelude.{◌≡◌, ◌≢◌, ◌≤◌, ◌<◌, ◌+◌, ◌^◌, ◌++◌, ◌∷◌, [], ℕ, List, IfErr, IfOk, IfSome, Ok, OnOk, false, get_or, length, slice_index, true};
 ghost use Rattle.par_model.specs.Plan.{Plan};
 ghost use Rattle.csv_rows.specs.Plain.{NoReturn};
 ghost use Rattle.csv_rows.specs.Records.{records_of};
 ghost use Rattle.found_rows.specs.Found.{BeginsWide, records_from};
-ghost use Rattle.found_rows.specs.Masks.{IsBlock};
+ghost use Rattle.found_rows.specs.Masks.{IsBlock, IsFirst, is_quote};
 ghost use Rattle.found_rows.specs.Refused.{SomeRefused};
 ghost use Rattle.found_rows.specs.Spans.{AreSpans, fields_in};
 ghost use Rattle.found_rows.specs.Written.{IsWritten, between, read_as};
@@ -209,7 +209,7 @@ fn next_field(
     ensures written { IfOk result (λ end. IsWritten text.now from end) }
     ensures field { IfOk result (λ end. fields_in text.now spans.new ≡ fields_in text.now spans.old ++ read_as (between from end text.now) ∷ []) }
 {
-    if from < text.len() && text[from] == b'"' {
+    if is_quote_at(text, from) {
         return quoted_field(text, from, block, spans);
     }
     let end = end_from(text, block, from);
@@ -241,12 +241,42 @@ fn quoted_field(
     let quote = quote_from(text, block, from + 1);
     let close = past_pairs(text, block, quote);
     let end = end_from(text, block, close);
-    if close == quote + 1 && end == close {
-        spans.push(text, from + 1, quote);
-    } else {
-        spans.push_written(text, &text[from..end])?;
-    }
+    push_quoted(text, from, quote, end, spans)?;
     Ok(end)
+}
+
+/// Puts the field after the others that is written between two places, with a quote in front, of which the next quote is
+/// this one.
+#[inline(always)]
+fn push_quoted(
+    text: &[u8],
+    from: usize,
+    quote: usize,
+    end: usize,
+    spans: &mut Spans,
+) -> Result<(), AllocError>
+    requires written { IsWritten text.now from end }
+    requires quote { slice_index text.now from ≡ 34 }
+    requires next { IsFirst is_quote text.now (from + 1) quote }
+    requires spans { AreSpans text.now spans.old }
+    requires room { length (fields_in text.now spans.old) < 64 }
+    ensures spans { OnOk result (AreSpans text.now spans.new) }
+    ensures field { OnOk result (fields_in text.now spans.new ≡ fields_in text.now spans.old ++ read_as (between from end text.now) ∷ []) }
+{
+    if end == quote + 1 {
+        spans.push(text, from + 1, quote);
+        return Ok(());
+    }
+    spans.push_written(text, &text[from..end])
+}
+
+/// Whether there is a quote at a place.
+#[inline(always)]
+fn is_quote_at(text: &[u8], at: usize) -> bool
+    ensures quote { result ≡ true → (at < length text.now) × (slice_index text.now at ≡ 34) }
+    ensures other { result ≡ false → at < length text.now → slice_index text.now at ≢ 34 }
+{
+    at < text.len() && text[at] == b'"'
 }
 
 /// Behind the quote that closes a field, of which this place is that of the first quote after the one that opens it, or the
@@ -264,7 +294,7 @@ fn past_pairs(text: &[u8], block: &mut Block, first: usize) -> usize
     ensures closed { (open : ℕ) → open ≤ first → IsPaired text.now open first → IsClosed text.now open result }
 {
     let mut quote = first;
-    'pairs: while quote + 1 < text.len() && text[quote + 1] == b'"' {
+    'pairs: while is_quote_at(text, quote + 1) {
         quote = quote_from(text, block, quote + 2);
     }
     if quote == text.len() {
