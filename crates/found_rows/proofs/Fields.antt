@@ -41,16 +41,16 @@ bare text from to lines first other =
 
 -- ---- a field behind a quote
 
-pub paired-first : (text : List ℕ) (open to : ℕ) → IsFirst is_quote text open to → IsPaired text open to
-paired-first text open to first =
-    let runs = quoted-runs (between open to text) (no-quote-in text open to first.low first.before) in
+pub paired-first : (text : List ℕ) (start to : ℕ) → IsFirst is_quote text start to → IsPaired text start to
+paired-first text start to first =
+    let runs = quoted-runs (between start to text) (no-quote-in text start to first.low first.before) in
     record { stays = runs.stays; inside = runs.state }
 
 -- two quotes, and the bytes up to the next one
-pub paired-more : (text : List ℕ) (open quote next : ℕ) → open ≤ quote → IsPaired text open quote → quote + 1 < length text → slice_index text quote ≡ 34 → slice_index text (quote + 1) ≡ 34
-    → IsFirst is_quote text (quote + 2) next → IsPaired text open next
-paired-more text open quote next low p within one two first =
-    let front = between open quote text in
+pub paired-more : (text : List ℕ) (start quote next : ℕ) → start ≤ quote → IsPaired text start quote → quote + 1 < length text → slice_index text quote ≡ 34 → slice_index text (quote + 1) ≡ 34
+    → IsFirst is_quote text (quote + 2) next → IsPaired text start next
+paired-more text start quote next low p within one two first =
+    let front = between start quote text in
     let rest = between (quote + 2) next text in
     let runs = quoted-runs rest (no-quote-in text (quote + 2) next first.low first.before) in
     let up : quote + 1 + 1 ≡ quote + 2 = omega arith in
@@ -58,22 +58,22 @@ paired-more text open quote next low p within one two first =
     between-first text quote next (omega (arith, first.low)) first.high
     ∙ ap (λ (c : ℕ). c ∷ between (quote + 1) next text) one
     ∙ ap (λ (xs : List ℕ). 34 ∷ xs) (between-first text (quote + 1) next (omega (arith, first.low)) first.high ∙ ap (λ (c : ℕ). c ∷ between (quote + 1 + 1) next text) two ∙ ap (λ n. 34 ∷ between n next text) up) in
-    let all : between open next text ≡ front ++ (34 ∷ 34 ∷ rest) = between-append text open quote next low (omega (arith, first.low)) ∙ ap (λ (xs : List ℕ). front ++ xs) pair in
+    let all : between start next text ≡ front ++ (34 ∷ 34 ∷ rest) = between-append text start quote next low (omega (arith, first.low)) ∙ ap (λ (xs : List ℕ). front ++ xs) pair in
     let more : Stays (state_after st.InQuoted front) (34 ∷ 34 ∷ rest) = subst (λ s. Stays s (34 ∷ 34 ∷ rest)) (sym p.inside) (pair-stays rest runs.stays) in
     record {
       stays = subst (λ xs. Stays st.InQuoted xs) (sym all) (stays-append st.InQuoted front (34 ∷ 34 ∷ rest) p.stays more);
       inside = ap (state_after st.InQuoted) all ∙ state-append st.InQuoted front (34 ∷ 34 ∷ rest) ∙ ap (λ s. state_after s (34 ∷ 34 ∷ rest)) p.inside ∙ pair-state rest ∙ runs.state;
     }
 
-pub closed-end : (text : List ℕ) (open to : ℕ) → to ≡ length text → IsPaired text open to → IsClosed text open to
-closed-end text open to is p = record { stays = p.stays; behind = λ lt. absurd (omega (arith, lt, is)); other = λ lt. absurd (omega (arith, lt, is)) }
+pub closed-end : (text : List ℕ) (start to : ℕ) → to ≡ length text → IsPaired text start to → IsClosed text start to
+closed-end text start to is p = record { stays = p.stays; behind = λ lt. absurd (omega (arith, lt, is)); other = λ lt. absurd (omega (arith, lt, is)) }
 
-pub closed-quote : (text : List ℕ) (open quote : ℕ) → open ≤ quote → quote < length text → slice_index text quote ≡ 34 → (quote + 1 < length text → slice_index text (quote + 1) ≢ 34) → IsPaired text open quote
-    → IsClosed text open (quote + 1)
-closed-quote text open quote low within is other p =
-    let front = between open quote text in
+pub closed-quote : (text : List ℕ) (start quote : ℕ) → start ≤ quote → quote < length text → slice_index text quote ≡ 34 → (quote + 1 < length text → slice_index text (quote + 1) ≢ 34) → IsPaired text start quote
+    → IsClosed text start (quote + 1)
+closed-quote text start quote low within is other p =
+    let front = between start quote text in
     let one : between quote (quote + 1) text ≡ 34 ∷ [] = between-one text quote within ∙ ap (λ (c : ℕ). c ∷ []) is in
-    let all : between open (quote + 1) text ≡ front ++ (34 ∷ []) = between-append text open quote (quote + 1) low (omega arith) ∙ ap (λ (xs : List ℕ). front ++ xs) one in
+    let all : between start (quote + 1) text ≡ front ++ (34 ∷ []) = between-append text start quote (quote + 1) low (omega arith) ∙ ap (λ (xs : List ℕ). front ++ xs) one in
     let more : Stays (state_after st.InQuoted front) (34 ∷ []) = subst (λ s. Stays s (34 ∷ [])) (sym p.inside) quote-stays in
     record {
       stays = subst (λ xs. Stays st.InQuoted xs) (sym all) (stays-append st.InQuoted front (34 ∷ []) p.stays more);
@@ -86,12 +86,12 @@ opened-up : (text : List ℕ) (from to : ℕ) → from < to → to ≤ length te
 opened-up text from to low high is = between-first text from to low high ∙ ap (λ (c : ℕ). c ∷ between (from + 1) to text) is
 
 -- behind the closing quote, if there is anything
-record Rest (text : List ℕ) (open close to : ℕ) : Type 0 where
-  stays : Stays (state_after st.InQuoted (between open close text)) (between close to text)
-  outside : to < length text → is_quoted (state_after (state_after st.InQuoted (between open close text)) (between close to text)) ≡ false
+record Rest (text : List ℕ) (start close to : ℕ) : Type 0 where
+  stays : Stays (state_after st.InQuoted (between start close text)) (between close to text)
+  outside : to < length text → is_quoted (state_after (state_after st.InQuoted (between start close text)) (between close to text)) ≡ false
 
-rest-of : (text : List ℕ) (open close to : ℕ) → NoReturn text → IsClosed text open close → IsFirst is_separator text close to → Rest text open close to
-rest-of text open close to lines closed first = elim (cases_lt close (length text)) [
+rest-of : (text : List ℕ) (start close to : ℕ) → NoReturn text → IsClosed text start close → IsFirst is_separator text close to → Rest text start close to
+rest-of text start close to lines closed first = elim (cases_lt close (length text)) [
   | inl lt ↦
       let runs = behind-runs (between close to text) (no-mark-in text close to lines first.low first.high first.before) (other-front text close to first.low first.high closed.other) in
       let state = closed.behind lt in
@@ -103,7 +103,7 @@ rest-of text open close to lines closed first = elim (cases_lt close (length tex
       let same : close ≡ to = omega (arith, le, first.low, first.high) in
       let none : between close to text ≡ [] = ap (λ n. between close n text) (sym same) ∙ between-none text close in
       record {
-        stays = subst (λ xs. Stays (state_after st.InQuoted (between open close text)) xs) (sym none) (none-stays (state_after st.InQuoted (between open close text)));
+        stays = subst (λ xs. Stays (state_after st.InQuoted (between start close text)) xs) (sym none) (none-stays (state_after st.InQuoted (between start close text)));
         outside = λ lt. absurd (omega (arith, lt, le, same));
       }
 ]

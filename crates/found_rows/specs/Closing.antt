@@ -5,12 +5,12 @@ use Rattle.csv_rows.specs.Cuts.{state_after}
 use Rattle.found_rows.specs.Written.{Stays, between}
 
 -- behind an opening quote these bytes leave the field open
-pub record IsPaired (text : List ℕ) (open to : ℕ) : Type 0 where
-  pub stays : Stays st.InQuoted (between open to text)
-  pub inside : state_after st.InQuoted (between open to text) ≡ st.InQuoted
+pub record IsPaired (text : List ℕ) (start to : ℕ) : Type 0 where
+  pub stays : Stays st.InQuoted (between start to text)
+  pub inside : state_after st.InQuoted (between start to text) ≡ st.InQuoted
 
 -- and these end with the quote that closes it, or with the text
-pub record IsClosed (text : List ℕ) (open to : ℕ) : Type 0 where
-  pub stays : Stays st.InQuoted (between open to text)
-  pub behind : to < length text → state_after st.InQuoted (between open to text) ≡ st.AfterQuote
+pub record IsClosed (text : List ℕ) (start to : ℕ) : Type 0 where
+  pub stays : Stays st.InQuoted (between start to text)
+  pub behind : to < length text → state_after st.InQuoted (between start to text) ≡ st.AfterQuote
   pub other : to < length text → slice_index text to ≢ 34

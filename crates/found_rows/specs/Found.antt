@@ -21,16 +21,16 @@ abbrev pub seen : List ℕ → ℕ → Spans → Seen
 seen text from spans = record { row = fields_in text spans; left = records_from text from }
 
 -- the text has no carriage returns, its bytes at hand are not beyond the scan, and the places are those of fields of it
-pub record IsScan (text : List ℕ) (from : ℕ) (block : Block) (spans : Spans) : Type 0 where
+pub record IsScan (text : List ℕ) (from : ℕ) (b : Block) (s : Spans) : Type 0 where
   pub within : from ≤ length text
   pub lines : NoReturn text
-  pub block : IsBlock text block
-  pub reached : block.base ≤ from
-  pub spans : AreSpans text spans
+  pub block : IsBlock text b
+  pub reached : b.base ≤ from
+  pub spans : AreSpans text s
 
 -- the first of some records has more fields than are given
-pub record BeginsWide (records : List (List (List ℕ))) : Type 0 where
+pub record BeginsWide (table : List (List (List ℕ))) : Type 0 where
   pub first : List (List ℕ)
   pub others : List (List (List ℕ))
-  pub are : records ≡ first ∷ others
+  pub are : table ≡ first ∷ others
   pub wide : 64 < length first

@@ -291,7 +291,7 @@ fn past_pairs(text: &[u8], block: &mut Block, first: usize) -> usize
     ensures within { result ≤ length text.now }
     ensures block { IsBlock text.now block.new }
     ensures reached { block.new.base ≤ result }
-    ensures closed { (open : ℕ) → open ≤ first → IsPaired text.now open first → IsClosed text.now open result }
+    ensures closed { (start : ℕ) → start ≤ first → IsPaired text.now start first → IsClosed text.now start result }
 {
     let mut quote = first;
     'pairs: while is_quote_at(text, quote + 1) {

@@ -3,7 +3,7 @@
 //! A record is read once, where it lies: the filters say whether it is kept, then its key is encoded into the buffer's array,
 //! and then each number is parsed a single time.
 
-ghost use Rattle.std.specs.Prelude.{◌≡◌, ◌<◌, ◌≤◌, ◌↔◌, ℕ, List, IsErr, All, IsTrue, IfOk, IfErr, IfSome, OnOk, None, Some, if◌then◌else◌, length, map, take};
+ghost use Rattle.std.specs.Prelude.{◌≡◌, ◌<◌, ◌≤◌, ◌↔◌, ℕ, List, IsErr, All, IsTrue, IfOk, IfErr, IfSome, OnOk, None, Some, false, if◌then◌else◌, length, map, take, true};
 ghost use Rattle.std.specs.Bool.{OnTrue};
 ghost use Rattle.std.specs.List.{position_from};
 ghost use Rattle.std.specs.Option.{option_map_or};
@@ -108,6 +108,7 @@ fn refused(cause: u8, item: u32) -> RowStatus
 }
 
 /// Encodes the key of a row's columns, if it is not too long.
+#[inline(always)]
 fn read_key(key: &mut KeyBytes, rows: &FoundRows<'_>, columns: &[u32]) -> bool
     requires { All (λ column. column < length rows.now.row) columns.now }
     ensures fits { IsTrue result ↔ (length (encoded (map (field_of rows.now.row) columns.now)) ≤ 248) }
@@ -124,6 +125,7 @@ fn read_key(key: &mut KeyBytes, rows: &FoundRows<'_>, columns: &[u32]) -> bool
 
 /// Reads the values of a row's aggregates into the front of the array; an error is the place of the first aggregate
 /// that can't read its field.
+#[inline(always)]
 fn read_values(
     values: &mut [Option<i64>; 8],
     rows: &FoundRows<'_>,
@@ -150,6 +152,7 @@ fn read_values(
 struct NoNumber;
 
 /// The value that an aggregate takes of a row.
+#[inline(always)]
 fn read_value(
     last: &mut Option<(u32, u32, Option<i64>)>,
     rows: &FoundRows<'_>,
@@ -172,6 +175,7 @@ fn read_value(
 
 /// The number of a row in a column, or nothing if it is null. The column that was read last of the row, with its
 /// places and its value, is not parsed again.
+#[inline(always)]
 fn read_column(
     last: &mut Option<(u32, u32, Option<i64>)>,
     rows: &FoundRows<'_>,

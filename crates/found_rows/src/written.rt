@@ -26,10 +26,18 @@ pub(crate) fn copy_field(copied: &mut Vec<u8>, written: &[u8]) -> Result<(), All
     let mut inside = Inside::Front;
     for byte in written {
         let (next, is_of_field) = step(inside, *byte);
-        if is_of_field {
-            copied.push(*byte)?;
-        }
+        push_if(copied, is_of_field, *byte)?;
         inside = next;
+    }
+    Ok(())
+}
+
+/// Puts a byte after others, if it is wanted.
+fn push_if(copied: &mut Vec<u8>, is_wanted: bool, byte: u8) -> Result<(), AllocError>
+    ensures { OnOk result (copied.new.items ≡ copied.old.items ++ (if is_wanted then byte ∷ [] else [])) }
+{
+    if is_wanted {
+        copied.push(byte)?;
     }
     Ok(())
 }

@@ -14,17 +14,17 @@ pairs-preserved c =
       is = λ lt. eqb-true (slice_index c.args.text.now c.quote_from.result) 34 (first.here lt);
       block = c.quote_from.ensures.block;
       reached = c.quote_from.ensures.reached;
-      paired = λ open low p. paired-more c.args.text.now open c.pairs.quote c.quote_from.result (omega (arith, low, inv.low)) (inv.paired open low p) two.0 (inv.is (omega (arith, two.0))) two.1 first;
+      paired = λ start low p. paired-more c.args.text.now start c.pairs.quote c.quote_from.result (omega (arith, low, inv.low)) (inv.paired start low p) two.0 (inv.is (omega (arith, two.0))) two.1 first;
     }
 
 pub returns-then-quote-text-clause-closed : goal.returns-then-quote-text-clause-closed
-returns-then-quote-text-clause-closed c open low p =
+returns-then-quote-text-clause-closed c start low p =
     let end : c.pairs.quote ≡ length c.args.text.now = search rules in
-    closed-end c.args.text.now open c.pairs.quote end (c.pairs.invariant.paired open low p)
+    closed-end c.args.text.now start c.pairs.quote end (c.pairs.invariant.paired start low p)
 
 pub returns-clause-closed : goal.returns-clause-closed
-returns-clause-closed c open low p =
+returns-clause-closed c start low p =
     let inv = c.pairs.invariant in
     let within : c.pairs.quote < length c.args.text.now = omega (arith, inv.high) in
     let other = c.is_quote_at.ensures.other (search rules) in
-    closed-quote c.args.text.now open c.pairs.quote (omega (arith, low, inv.low)) within (inv.is within) other (inv.paired open low p)
+    closed-quote c.args.text.now start c.pairs.quote (omega (arith, low, inv.low)) within (inv.is within) other (inv.paired start low p)

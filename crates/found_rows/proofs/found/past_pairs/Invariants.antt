@@ -10,7 +10,7 @@ invariant-pairs l = record {
   is : l.quote < length l.text → slice_index l.text l.quote ≡ 34;
   block : IsBlock l.text l.block;
   reached : l.block.base ≤ l.quote;
-  paired : (open : ℕ) → open ≤ l.first → IsPaired l.text open l.first → IsPaired l.text open l.quote;
+  paired : (start : ℕ) → start ≤ l.first → IsPaired l.text start l.first → IsPaired l.text start l.quote;
 }
 
 abbrev pub decreases-pairs : goal.decreases-pairs
