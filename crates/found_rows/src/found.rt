@@ -60,15 +60,17 @@ impl<'a> FoundRows<'a> {
         ensures few { IfSome result (λ rows. length rows.left < 2 ^ 64) }
     {
         let text = without_mark(bytes);
-        match memchr(b'\r', text) {
-            Some(_return) => None,
-            None => Some(FoundRows {
-                text,
-                from: 0,
-                block: block_at(text, 0),
-                spans: no_spans(alloc),
-            }),
+        if has_return(text) {
+            return None;
         }
+        let block = block_at(text, 0);
+        let spans = no_spans(alloc);
+        Some(FoundRows {
+            text,
+            from: 0,
+            block,
+            spans,
+        })
     }
 
     /// Finds the next record. The time is linear in its bytes; memory is taken only for fields that are copied. After an
@@ -132,6 +134,13 @@ impl<'a> FoundRows<'a> {
     {
         self.spans.field(self.text, at)
     }
+}
+
+/// Whether there is a carriage return in a text.
+fn has_return(text: &[u8]) -> bool
+    ensures { result ≡ false → NoReturn text.now }
+{
+    memchr(b'\r', text).is_some()
 }
 
 /// Behind the line feeds that a text has at a place.

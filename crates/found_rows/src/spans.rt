@@ -49,7 +49,8 @@ impl Spans {
     /// How many fields there are.
     #[inline(always)]
     pub(crate) fn count(&self) -> usize
-        ensures { (text : List ℕ) → AreSpans text self.now → result ≡ length (fields_in text self.now) }
+        ensures count { (text : List ℕ) → AreSpans text self.now → result ≡ length (fields_in text self.now) }
+        ensures few { (text : List ℕ) → AreSpans text self.now → result ≤ 64 }
     {
         self.count
     }
