@@ -48,47 +48,103 @@ other-first c xs h = elim (cases_Bool (c == 34)) [ inl e ↦ absurd (h (omega ar
 
 -- ---- in a field without quotes
 
-pub bare-runs : (x : List ℕ) → NoMark x → Runs st.InField st.InField x
-unfolding Stays copied state_after
-bare-runs [] h = record { stays = tt; state = refl; bytes = refl }
-bare-runs (c ∷ x) h =
+bare-stays : (x : List ℕ) → NoMark x → Stays st.InField x
+unfolding Stays
+bare-stays [] h = tt
+bare-stays (c ∷ x) h =
     let m = head-mark c x h in
-    let more = bare-runs x (tail-mark c x h) in
-    rw (not-comma c m, not-return c m, not-feed c m) (record { stays = (refl, more.stays); state = more.state; bytes = ap (λ (f : List ℕ). c ∷ f) more.bytes })
+    rw (not-comma c m, not-return c m, not-feed c m) (refl, bare-stays x (tail-mark c x h))
+
+bare-state : (x : List ℕ) → NoMark x → state_after st.InField x ≡ st.InField
+unfolding state_after
+bare-state [] h = refl
+bare-state (c ∷ x) h =
+    let m = head-mark c x h in
+    rw (not-comma c m, not-return c m, not-feed c m) (bare-state x (tail-mark c x h))
+
+bare-bytes : (x : List ℕ) → NoMark x → copied st.InField x ≡ x
+unfolding copied
+bare-bytes [] h = refl
+bare-bytes (c ∷ x) h =
+    let m = head-mark c x h in
+    rw (not-comma c m, not-return c m, not-feed c m) (ap (λ (f : List ℕ). c ∷ f) (bare-bytes x (tail-mark c x h)))
 
 -- at its start, and behind the quote that closes one
-
 pub record RunsOut (s : State) (x : List ℕ) : Type 0 where
   pub stays : Stays s x
   pub outside : is_quoted (state_after s x) ≡ false
   pub bytes : copied s x ≡ x
 
-pub front-runs : (x : List ℕ) → NoMark x → (0 < length x → slice_index x 0 ≢ 34) → RunsOut st.StartField x
-unfolding Stays copied state_after
-front-runs [] h q = record { stays = tt; outside = refl; bytes = refl }
-front-runs (c ∷ x) h q =
+abbrev OtherFirst : List ℕ → Type 0
+OtherFirst x = 0 < length x → slice_index x 0 ≢ 34
+
+front-stays : (x : List ℕ) → NoMark x → OtherFirst x → Stays st.StartField x
+unfolding Stays
+front-stays [] h q = tt
+front-stays (c ∷ x) h q =
     let m = head-mark c x h in
-    let more = bare-runs x (tail-mark c x h) in
-    rw (other-first c x q, not-comma c m, not-return c m, not-feed c m)
-    (record { stays = (refl, more.stays); outside = ap is_quoted more.state; bytes = ap (λ (f : List ℕ). c ∷ f) more.bytes })
+    rw (other-first c x q, not-comma c m, not-return c m, not-feed c m) (refl, bare-stays x (tail-mark c x h))
+
+front-outside : (x : List ℕ) → NoMark x → OtherFirst x → is_quoted (state_after st.StartField x) ≡ false
+unfolding state_after
+front-outside [] h q = refl
+front-outside (c ∷ x) h q =
+    let m = head-mark c x h in
+    rw (other-first c x q, not-comma c m, not-return c m, not-feed c m) (ap is_quoted (bare-state x (tail-mark c x h)))
+
+front-bytes : (x : List ℕ) → NoMark x → OtherFirst x → copied st.StartField x ≡ x
+unfolding copied
+front-bytes [] h q = refl
+front-bytes (c ∷ x) h q =
+    let m = head-mark c x h in
+    rw (other-first c x q, not-comma c m, not-return c m, not-feed c m) (ap (λ (f : List ℕ). c ∷ f) (bare-bytes x (tail-mark c x h)))
+
+pub front-runs : (x : List ℕ) → NoMark x → (0 < length x → slice_index x 0 ≢ 34) → RunsOut st.StartField x
+front-runs x h q = record { stays = front-stays x h q; outside = front-outside x h q; bytes = front-bytes x h q }
+
+behind-stays : (x : List ℕ) → NoMark x → OtherFirst x → Stays st.AfterQuote x
+unfolding Stays
+behind-stays [] h q = tt
+behind-stays (c ∷ x) h q =
+    let m = head-mark c x h in
+    rw (other-first c x q, not-comma c m, not-return c m, not-feed c m) (refl, bare-stays x (tail-mark c x h))
+
+behind-outside : (x : List ℕ) → NoMark x → OtherFirst x → is_quoted (state_after st.AfterQuote x) ≡ false
+unfolding state_after
+behind-outside [] h q = refl
+behind-outside (c ∷ x) h q =
+    let m = head-mark c x h in
+    rw (other-first c x q, not-comma c m, not-return c m, not-feed c m) (ap is_quoted (bare-state x (tail-mark c x h)))
+
+behind-bytes : (x : List ℕ) → NoMark x → OtherFirst x → copied st.AfterQuote x ≡ x
+unfolding copied
+behind-bytes [] h q = refl
+behind-bytes (c ∷ x) h q =
+    let m = head-mark c x h in
+    rw (other-first c x q, not-comma c m, not-return c m, not-feed c m) (ap (λ (f : List ℕ). c ∷ f) (bare-bytes x (tail-mark c x h)))
 
 pub behind-runs : (x : List ℕ) → NoMark x → (0 < length x → slice_index x 0 ≢ 34) → RunsOut st.AfterQuote x
-unfolding Stays copied state_after
-behind-runs [] h q = record { stays = tt; outside = refl; bytes = refl }
-behind-runs (c ∷ x) h q =
-    let m = head-mark c x h in
-    let more = bare-runs x (tail-mark c x h) in
-    rw (other-first c x q, not-comma c m, not-return c m, not-feed c m)
-    (record { stays = (refl, more.stays); outside = ap is_quoted more.state; bytes = ap (λ (f : List ℕ). c ∷ f) more.bytes })
+behind-runs x h q = record { stays = behind-stays x h q; outside = behind-outside x h q; bytes = behind-bytes x h q }
 
 -- ---- between quotes
 
+quoted-stays : (x : List ℕ) → NoQuote x → Stays st.InQuoted x
+unfolding Stays
+quoted-stays [] h = tt
+quoted-stays (c ∷ x) h = rw (head-quote c x h) (refl, quoted-stays x (tail-quote c x h))
+
+quoted-state : (x : List ℕ) → NoQuote x → state_after st.InQuoted x ≡ st.InQuoted
+unfolding state_after
+quoted-state [] h = refl
+quoted-state (c ∷ x) h = rw (head-quote c x h) (quoted-state x (tail-quote c x h))
+
+quoted-bytes : (x : List ℕ) → NoQuote x → copied st.InQuoted x ≡ x
+unfolding copied
+quoted-bytes [] h = refl
+quoted-bytes (c ∷ x) h = rw (head-quote c x h) (ap (λ (f : List ℕ). c ∷ f) (quoted-bytes x (tail-quote c x h)))
+
 pub quoted-runs : (x : List ℕ) → NoQuote x → Runs st.InQuoted st.InQuoted x
-unfolding Stays copied state_after
-quoted-runs [] h = record { stays = tt; state = refl; bytes = refl }
-quoted-runs (c ∷ x) h =
-    let more = quoted-runs x (tail-quote c x h) in
-    rw (head-quote c x h) (record { stays = (refl, more.stays); state = more.state; bytes = ap (λ (f : List ℕ). c ∷ f) more.bytes })
+quoted-runs x h = record { stays = quoted-stays x h; state = quoted-state x h; bytes = quoted-bytes x h }
 
 -- a quote that opens a field, one that may close it, and another behind that
 pub opened : (x : List ℕ) → Stays st.InQuoted x → Stays st.StartField (34 ∷ x)
@@ -117,7 +173,7 @@ quote-bytes = refl
 
 pub pair-stays : (x : List ℕ) → Stays st.InQuoted x → Stays st.InQuoted (34 ∷ 34 ∷ x)
 unfolding Stays
-pair-stays x h = (refl, refl, h)
+pair-stays x h = (refl, (refl, h))
 
 pub pair-state : (x : List ℕ) → state_after st.InQuoted (34 ∷ 34 ∷ x) ≡ state_after st.InQuoted x
 unfolding state_after

@@ -1,7 +1,7 @@
 -- Places of fields, of which one more is put behind the others.
-use Rattle.std.proofs.Common.{◌≡◌, ◌<◌, ◌≤◌, ◌+◌, ◌-◌, ◌∙◌, ◌++◌, ℕ, true, false, All, List, [], ◌∷◌, drop, get_or, length, map, set, take, refl, sym, ap, arith, length-append}
+use Rattle.std.proofs.Common.{◌≡◌, ◌<◌, ◌≤◌, ◌+◌, ◌-◌, ◌∙◌, ◌++◌, ℕ, true, false, All, List, [], ◌∷◌, drop, get_or, length, map, set, take, refl, sym, ap, inl, inr, arith, length-append}
 use Rattle.std.proofs.lemmas.Bool.{cases_Bool}
-use Rattle.std.proofs.lemmas.List.{drop-append-le, get_or-map, get_or-take, length-drop, length-map, length-take, map-append, take-append-le, take_more_set}
+use Rattle.std.proofs.lemmas.List.{drop-append-le, get_or-map, get_or-take, length-drop, length-map, length-take, map-append, take-append-le, take_all, take_more_set}
 use Rattle.std.proofs.lemmas.List.Elements.{All-head, All-push, All-tail}
 use Rattle.found_rows.specs.Spans.{AreSpans, IsSpan, bytes_of, field_in, fields_in}
 use Rattle.found_rows.specs.Written.{between}
@@ -55,3 +55,25 @@ fields-many text copied list count le = omega (arith, length-map (take count lis
 pub field-at : (text copied : List ℕ) (list : List Span) (count at : ℕ) (d : Span) → at < count → count ≤ length list → get_or (map (field_in text copied) (take count list)) at [] ≡ field_in text copied (get_or list at d)
 field-at text copied list count at d lt le =
     get_or-map (field_in text copied) (take count list) at d [] (omega (arith, length-take count list, lt, le)) ∙ ap (field_in text copied) (get_or-take count list at d lt)
+
+-- behind the front
+drop-front : (front back : List ℕ) → drop (length front) (front ++ back) ≡ back
+drop-front [] back = refl
+drop-front (x ∷ front) back = drop-front front back
+
+-- the field that was copied last
+last-copied : (copied written : List ℕ) → between (length copied) (length (copied ++ written)) (copied ++ written) ≡ written
+last-copied copied written =
+    let size = length-append copied written in
+    ap (take (length (copied ++ written) - length copied)) (drop-front copied written) ∙ take_all (length (copied ++ written) - length copied) written (omega (arith, size))
+
+-- the fields with one more that was copied
+pub pushed-written : (text copied written now : List ℕ) (list : List Span) (count start end : ℕ) → count < length list → All (IsSpan text copied) (take count list) → now ≡ copied ++ written → start ≡ length copied → end ≡ length now
+    → map (field_in text now) (take (count + 1) (set list count (record { start = start; end = end; is_copied = true }))) ≡ map (field_in text copied) (take count list) ++ written ∷ []
+pushed-written text copied written now list count start end room old is first last =
+    rw (last, first, is) (
+      let span : Span = record { start = length copied; end = length (copied ++ written); is_copied = true } in
+      let size = length-append copied written in
+      let within : IsSpan text (copied ++ written) span = record { order = omega (arith, size); within = omega arith } in
+      pushed-fields text copied written list count span room old within ∙ ap (λ (f : List ℕ). map (field_in text copied) (take count list) ++ f ∷ []) (last-copied copied written)
+    )

@@ -2,7 +2,7 @@
 use Rattle.std.proofs.Common.{◌≡◌, ◌<◌, ◌≤◌, ◌+◌, ◌∙◌, ◌++◌, ℕ, Bool, true, false, List, [], ◌∷◌, length, refl, sym, ap, inl, inr, arith, append_assoc, append-nil, length-append}
 use Rattle.std.specs.Prelude.{◌==◌, ◌||◌, if◌then◌else◌}
 use Rattle.std.proofs.lemmas.Bool.{cases_Bool}
-use Rattle.csv.specs.Machine.{ends_at_end, field_after, fields_after, in_field, is_end, start_field, step}
+use Rattle.csv.specs.Machine.{ends_at_end, field_after, fields_after, in_field, is_end, start_field, start_record, step}
 use Rattle.csv.specs.Reading.{default_config}
 use Rattle.csv.specs.declared.parser.Action.{Action}
 use Rattle.csv.specs.declared.parser.Action.TheVariants as act
@@ -184,12 +184,56 @@ goes-on s fields field (c ∷ xs) w =
 
 -- ---- how many records there are
 
-pub few-records : (s : State) (fields : List (List ℕ)) (field xs : List ℕ) → length (all_from s fields field xs) ≤ length xs + length xs + 1
+-- a step that ends a record leaves the machine between records
+abbrev EndsBetween : State × Action → Type 0
+EndsBetween p = is_end p.1 ≡ true → ends_at_end p.0 ≡ false
+
+in_field-between : (c : ℕ) → EndsBetween (in_field default_config c)
+in_field-between c = elim (cases_Bool (c == 44)) [
+  | inl e ↦ rw e (λ h. absurd (cc h))
+  | inr e ↦ elim (cases_Bool (c == 13)) [
+    | inl r ↦ rw (e, r) (λ h. refl)
+    | inr r ↦ elim (cases_Bool (c == 10)) [ inl l ↦ rw (e, r, l) (λ h. refl) | inr l ↦ rw (e, r, l) (λ h. absurd (cc h)) ]
+  ]
+]
+
+start_field-between : (c : ℕ) → EndsBetween (start_field default_config c)
+start_field-between c = elim (cases_Bool (c == 34)) [ inl q ↦ rw q (λ h. absurd (cc h)) | inr q ↦ rw q (in_field-between c) ]
+
+start_record-between : (c : ℕ) → EndsBetween (start_record default_config c)
+start_record-between c = elim (cases_Bool (c == 13)) [
+  | inl r ↦ rw r (λ h. absurd (cc h))
+  | inr r ↦ elim (cases_Bool (c == 10)) [ inl l ↦ rw (r, l) (λ h. absurd (cc h)) | inr l ↦ rw (r, l) (rw (r, l) at (start_field-between c)) ]
+]
+
+step-between : (s : State) (c : ℕ) → EndsBetween (step default_config s c)
+step-between st.StartRecord c = start_record-between c
+step-between st.StartField c = start_field-between c
+step-between st.InField c = in_field-between c
+step-between st.InQuoted c = elim (cases_Bool (c == 34)) [ inl q ↦ rw q (λ h. absurd (cc h)) | inr q ↦ rw q (λ h. absurd (cc h)) ]
+step-between st.InEscape c = λ h. absurd (cc h)
+step-between st.AfterQuote c = elim (cases_Bool (c == 34)) [ inl q ↦ rw q (λ h. absurd (cc h)) | inr q ↦ rw q (in_field-between c) ]
+step-between st.InComment c = elim (cases_Bool (c == 10)) [ inl l ↦ rw l (λ h. absurd (cc h)) | inr l ↦ rw l (λ h. absurd (cc h)) ]
+step-between st.AfterCr c = elim (cases_Bool (c == 10)) [ inl l ↦ rw l (λ h. absurd (cc h)) | inr l ↦ rw l (start_record-between c) ]
+
+one-or-none : (b : Bool) → (if b then 1 else 0) ≤ 1
+one-or-none true = omega arith
+one-or-none false = omega arith
+
+-- each takes a byte, but for one that has begun
+all-few : (s : State) (fields : List (List ℕ)) (field xs : List ℕ) → length (all_from s fields field xs) ≤ length xs + (if ends_at_end s then 1 else 0)
 unfolding all_from
-few-records s fields field [] = elim (cases_Bool (ends_at_end s)) [ inl e ↦ rw e (omega arith) | inr e ↦ rw e (omega arith) ]
-few-records s fields field (c ∷ xs) =
+all-few s fields field [] = elim (cases_Bool (ends_at_end s)) [ inl e ↦ rw e (omega arith) | inr e ↦ rw e (omega arith) ]
+all-few s fields field (c ∷ xs) =
     let a = (step default_config s c).1 in
     let t = (step default_config s c).0 in
-    let ended = few-records t [] [] xs in
-    let more = few-records t (fields_after a fields field) (field_after a c field) xs in
-    elim (cases_Bool (is_end a)) [ inl e ↦ rw e (omega (arith, ended)) | inr e ↦ rw e (omega (arith, more)) ]
+    let ended = all-few t [] [] xs in
+    let more = all-few t (fields_after a fields field) (field_after a c field) xs in
+    let few = one-or-none (ends_at_end t) in
+    elim (cases_Bool (is_end a)) [
+      | inl e ↦ rw e (omega (arith, rw (step-between s c e) at ended))
+      | inr e ↦ rw e (omega (arith, more, few))
+    ]
+
+pub few-records : (s : State) (fields : List (List ℕ)) (field xs : List ℕ) → ends_at_end s ≡ false → length (all_from s fields field xs) ≤ length xs
+few-records s fields field xs between = omega (arith, rw between at (all-few s fields field xs))

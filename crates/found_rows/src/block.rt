@@ -37,7 +37,7 @@ pub(crate) fn end_from(text: &[u8], block: &mut Block, from: usize) -> usize
     ensures reached { block.new.base ≤ result }
 {
     let mut mask = since(block.masks.ends, from - block.base);
-    'blocks: while mask == 0 {
+    'steps: while mask == 0 {
         if text.len() - block.base <= BLOCK {
             return text.len();
         }
@@ -58,7 +58,7 @@ pub(crate) fn quote_from(text: &[u8], block: &mut Block, from: usize) -> usize
     ensures reached { block.new.base ≤ result }
 {
     let mut mask = since(block.masks.quotes, from - block.base);
-    'blocks: while mask == 0 {
+    'steps: while mask == 0 {
         if text.len() - block.base <= BLOCK {
             return text.len();
         }

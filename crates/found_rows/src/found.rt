@@ -1,6 +1,6 @@
 //! The records of a text, one after the other.
 
-ghost use Rattle.std.specs.Prelude.{◌≡◌, ◌≢◌, ◌≤◌, ◌<◌, ◌+◌, ◌^◌, ◌++◌, ◌∷◌, [], ℕ, List, IfErr, IfOk, IfSome, Ok, OnOk, false, get_or, length, slice_index, true};
+ghost use Rattle.std.specs.Prelude.{◌≡◌, ◌≢◌, ◌≤◌, ◌<◌, ◌+◌, ◌++◌, ◌∷◌, [], ℕ, List, IfErr, IfOk, IfSome, Ok, OnOk, false, get_or, length, slice_index, true};
 ghost use Rattle.par_model.specs.Plan.{Plan};
 ghost use Rattle.csv_rows.specs.Plain.{NoReturn};
 ghost use Rattle.csv_rows.specs.Records.{records_of};
@@ -57,7 +57,7 @@ impl<'a> FoundRows<'a> {
     /// of a search for a byte.
     pub fn of(alloc: Global, bytes: &'a [u8]) -> Option<FoundRows<'a>>
         ensures left { IfSome result (λ rows. rows.left ≡ records_of bytes.entry.now) }
-        ensures few { IfSome result (λ rows. length rows.left < 2 ^ 64) }
+        ensures few { IfSome result (λ rows. length rows.left ≤ length bytes.entry.now) }
     {
         let text = without_mark(bytes);
         if has_return(text) {

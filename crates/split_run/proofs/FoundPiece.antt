@@ -1,5 +1,5 @@
 -- Rows that are added as they are found.
-use Rattle.std.proofs.Common.{◌≡◌, ◌≢◌, ◌<◌, ◌≤◌, ◌+◌, ◌-◌, ◌∙◌, ◌++◌, ℕ, true, None, Some, All, List, [], ◌∷◌, drop, get_or, length, map, take, refl, sym, ap, subst, inl, inr, arith, length-append, length-drop}
+use Rattle.std.proofs.Common.{◌≡◌, ◌≢◌, ◌<◌, ◌≤◌, ◌+◌, ◌-◌, ◌∙◌, ◌++◌, ℕ, ℤ, true, false, cond, fold, None, Option, Some, All, List, [], ◌∷◌, drop, get_or, length, map, take, refl, sym, ap, subst, inl, inr, arith, length-append, length-drop}
 use Rattle.std.specs.Prelude.{◌==◌}
 use Rattle.std.proofs.lemmas.Bool.{and_parts, eqb-true}
 use Rattle.std.proofs.lemmas.List.{drop_more, get_or-drop, take_more}
@@ -9,11 +9,19 @@ use Rattle.csv_rows.specs.Records.{records_of}
 use Rattle.csv_rows.specs.declared.cleaning.Reading.{Reading}
 use Rattle.csv_rows.proofs.Cleaned.{cleaned-exchanged, comma-kept, kept-all}
 use Rattle.par_model.specs.Plan.{Plan}
-use Rattle.partial_agg.specs.Groups.{GroupsByKey, with_rows}
+use Rattle.par_model.specs.Keep.{is_kept}
+use Rattle.par_model.specs.Key.{key_of}
+use Rattle.par_model.specs.Refuse.{refusal}
+use Rattle.par_model.specs.declared.refusal.Refusal.{Refusal}
+use Rattle.partial_agg.specs.Groups.{GroupsByKey, added, with_row, with_rows}
+use Rattle.partial_agg.specs.Reading.{IsKeptAs}
 use Rattle.partial_agg.specs.Rows.{IsAccepted}
 use Rattle.partial_agg.specs.declared.map.BlockAnswer.{BlockAnswer}
 use Rattle.partial_agg.specs.declared.map.BlockAnswer.TheVariants as answer
+use Rattle.partial_agg.specs.Values.{values_state}
 use Rattle.partial_agg.proofs.Blocks.{with_rows-append}
+use Rattle.partial_agg.proofs.OneRow.{state_of_one}
+use Rattle.partial_agg.proofs.Refusals.{counted_is_readable}
 use Rattle.row_blocks.specs.Blocks.{Table}
 use Rattle.found_rows.specs.Refused.{SomeRefused}
 
@@ -25,6 +33,24 @@ read-plainly reading bytes h =
     ∙ ap (λ (s : ℕ). map (map (cleaned reading)) (map (map (map (exchanged s))) (records_of bytes))) comma
     ∙ ap (map (map (cleaned reading))) (comma-kept (records_of bytes))
     ∙ kept-all reading (records_of bytes) (and_parts (reading.separator == 44) (keeps_all reading) h).1
+
+-- ---- one row
+
+pub kept_added : (plan : Plan) (width : ℕ) (row : List (List ℕ)) (key : List ℕ) (values : List (Option ℤ)) (old new : GroupsByKey) → IsKeptAs plan width row key values
+    → new ≡ added old key (values_state (take (length plan.items) values)) → new ≡ with_rows plan old (row ∷ [])
+kept_added plan width row key values old new k now =
+    let readable = counted_is_readable plan width row k.counted.0 k.counted.1 in
+    now ∙ (λ i. added old (k.is_key i) (values_state (k.are_values i))) ∙ ap (added old (key_of plan row)) (sym (state_of_one plan row readable))
+    ∙ sym (ap (λ b. fold (with_row plan) old (cond b (row ∷ []) [])) k.counted.1)
+
+pub left_added : (plan : Plan) (row : List (List ℕ)) (groups : GroupsByKey) → is_kept plan row ≡ false → groups ≡ with_rows plan groups (row ∷ [])
+left_added plan row groups out = sym (ap (λ b. fold (with_row plan) groups (cond b (row ∷ []) [])) out)
+
+pub refused_one : (plan : Plan) (width : ℕ) (row : List (List ℕ)) (why : Refusal) → refusal plan width row ≡ Some why → All (IsAccepted plan width) (row ∷ []) → ⊥
+refused_one plan width row why is accepted =
+    let fine : refusal plan width row ≡ None = accepted 0 [] (omega arith) in
+    let both : None ≡ Some why = sym fine ∙ is in
+    cc both
 
 -- ---- the rows so far, and the next one
 

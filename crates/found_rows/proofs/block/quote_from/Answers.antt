@@ -3,31 +3,31 @@ use Rattle.found_rows.specs.Masks.{NoneIn, is_quote}
 use Rattle.found_rows.proofs.Blocks.{first-bit, first-end, inside, none-in-block, since-base}
 use Rattle.found_rows.proofs.block.quote_from.Goals as goal
 
-pub blocks-init : goal.blocks-init
-blocks-init c = record {
+pub steps-init : goal.steps-init
+steps-init c = record {
   block = c.requires.block;
   since = since-base c.args.block.now.masks.quotes c.args.block.now.base c.args.from _ c.since-mask.result refl c.since-mask.ensures.kept c.since-mask.ensures.no_more;
   before = λ j low high. absurd (omega (arith, low, high, c.requires.reached));
 }
 
-pub blocks-preserved : goal.blocks-preserved
-blocks-preserved c =
-    let inv = c.blocks.invariant in
-    let none : c.blocks.mask ≡ 0 = search rules in
-    let before = none-in-block is_quote c.args.text.now c.blocks.block.masks.quotes c.blocks.block.base c.args.from c.blocks.mask inv.block.quotes inv.since inv.before none in
+pub steps-preserved : goal.steps-preserved
+steps-preserved c =
+    let inv = c.steps.invariant in
+    let none : c.steps.mask ≡ 0 = search rules in
+    let before = none-in-block is_quote c.args.text.now c.steps.block.masks.quotes c.steps.block.base c.args.from c.steps.mask inv.block.quotes inv.since inv.before none in
     record {
       block = c.block_at.ensures.block;
-      since = since-base c.block_at.result.masks.quotes c.block_at.result.base c.args.from _ c.since-mask-2.result (search rules) c.since-mask-2.ensures.kept c.since-mask-2.ensures.no_more;
+      since = since-base c.block_at.result.masks.quotes c.block_at.result.base c.args.from _ c.since-mask-in-steps.result (search rules) c.since-mask-in-steps.ensures.kept c.since-mask-in-steps.ensures.no_more;
       before = subst (λ n. NoneIn is_quote c.args.text.now c.args.from n) (sym c.block_at.ensures.base) before;
     }
 
-pub returns-then-text-block-le-BLOCK-clause-first : goal.returns-then-clause-first
+pub returns-then-text-block-le-BLOCK-clause-first : goal.returns-then-text-block-le-BLOCK-clause-first
 returns-then-text-block-le-BLOCK-clause-first c =
-    let inv = c.blocks.invariant in
-    let none : c.blocks.mask ≡ 0 = search rules in
-    first-end is_quote c.args.text.now c.blocks.block.masks.quotes c.blocks.block.base c.args.from c.blocks.mask inv.block.quotes inv.since inv.before none (omega arith) c.requires.within
+    let inv = c.steps.invariant in
+    let none : c.steps.mask ≡ 0 = search rules in
+    first-end is_quote c.args.text.now c.steps.block.masks.quotes c.steps.block.base c.args.from c.steps.mask inv.block.quotes inv.since inv.before none (omega arith) c.requires.within
 
 pub returns-clause-first : goal.returns-clause-first
 returns-clause-first c =
-    let inv = c.blocks.invariant in
-    first-bit is_quote c.args.text.now c.blocks.block.masks.quotes c.blocks.block.base c.args.from c.blocks.mask inv.block.quotes inv.since inv.before c.lowest.result refl c.lowest.ensures.set c.lowest.ensures.below
+    let inv = c.steps.invariant in
+    first-bit is_quote c.args.text.now c.steps.block.masks.quotes c.steps.block.base c.args.from c.steps.mask inv.block.quotes inv.since inv.before c.lowest.result refl c.lowest.ensures.set c.lowest.ensures.below

@@ -6,15 +6,15 @@ use Rattle.found_rows.proofs.found.past_pairs.Goals as goal
 pub pairs-preserved : goal.pairs-preserved
 pairs-preserved c =
     let inv = c.pairs.invariant in
-    let first = c.quote_from.ensures.first in
+    let first = c.quote_from-quote.ensures.first in
     let two = c.is_quote_at.ensures.quote (search rules) in
     record {
       low = omega (arith, inv.low, first.low);
       high = first.high;
-      is = λ lt. eqb-true (slice_index c.args.text.now c.quote_from.result) 34 (first.here lt);
-      block = c.quote_from.ensures.block;
-      reached = c.quote_from.ensures.reached;
-      paired = λ start low p. paired-more c.args.text.now start c.pairs.quote c.quote_from.result (omega (arith, low, inv.low)) (inv.paired start low p) two.0 (inv.is (omega (arith, two.0))) two.1 first;
+      is = λ lt. eqb-true (slice_index c.args.text.now c.quote_from-quote.result) 34 (first.here lt);
+      block = c.quote_from-quote.ensures.block;
+      reached = c.quote_from-quote.ensures.reached;
+      paired = λ start low p. paired-more c.args.text.now start c.pairs.quote c.quote_from-quote.result (omega (arith, low, inv.low)) (inv.paired start low p) two.0 (inv.is (omega (arith, two.0))) two.1 first;
     }
 
 pub returns-then-quote-text-clause-closed : goal.returns-then-quote-text-clause-closed

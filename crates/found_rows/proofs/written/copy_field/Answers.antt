@@ -15,8 +15,8 @@ loop-byte-init c = record {
   bytes = sym (ap (λ (xs : List ℕ). c.args.copied.now.items ++ xs) (none-copied st.StartField) ∙ append-nil c.args.copied.now.items);
 }
 
-pub step-requires : goal.step-requires
-step-requires c =
+pub step-next-requires : goal.step-next-requires
+step-next-requires c =
     let w = c.args.written.now in
     let i = c.loop-byte.byte-index in
     ap (λ (s : State). ends_field (step default_config s (get_or w i 0)).1) c.loop-byte.invariant.inside ∙ stays-at st.StartField w i c.loop-byte-test.true c.requires
@@ -31,8 +31,8 @@ loop-byte-preserved c =
     let old = c.args.copied.now.items in
     let before = copied st.StartField (take i w) in
     record {
-      inside = c.step.ensures.state ∙ ap (λ (s : State). (step default_config s b).0) inv.inside ∙ sym (state-next st.StartField w i low);
-      bytes = c.in_ok-push_if.ensures ∙ (λ j. inv.bytes j ++ c.step.ensures.byte j)
+      inside = c.step-next.ensures.state ∙ ap (λ (s : State). (step default_config s b).0) inv.inside ∙ sym (state-next st.StartField w i low);
+      bytes = c.in_ok-push_if.ensures ∙ (λ j. inv.bytes j ++ c.step-next.ensures.byte j)
           ∙ ap (λ (s : State). (old ++ before) ++ field_after (step default_config s b).1 b []) inv.inside
           ∙ append_assoc old before (field_after (step default_config (state_after st.StartField (take i w)) b).1 b [])
           ∙ ap (λ (xs : List ℕ). old ++ xs) (sym (copied-next st.StartField w i low));
