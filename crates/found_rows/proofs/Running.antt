@@ -214,7 +214,7 @@ step-between st.InQuoted c = elim (cases_Bool (c == 34)) [ inl q ↦ rw q (λ h.
 step-between st.InEscape c = λ h. absurd (cc h)
 step-between st.AfterQuote c = elim (cases_Bool (c == 34)) [ inl q ↦ rw q (λ h. absurd (cc h)) | inr q ↦ rw q (in_field-between c) ]
 step-between st.InComment c = elim (cases_Bool (c == 10)) [ inl l ↦ rw l (λ h. absurd (cc h)) | inr l ↦ rw l (λ h. absurd (cc h)) ]
-step-between st.AfterCr c = elim (cases_Bool (c == 10)) [ inl l ↦ rw l (λ h. absurd (cc h)) | inr l ↦ rw l (start_record-between c) ]
+step-between st.AfterCr c = elim (cases_Bool (c == 10)) [ inl l ↦ rw l (λ h. absurd (cc h)) | inr l ↦ rw l (rw l at (start_record-between c)) ]
 
 one-or-none : (b : Bool) → (if b then 1 else 0) ≤ 1
 one-or-none true = omega arith

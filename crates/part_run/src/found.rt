@@ -28,6 +28,7 @@ pub(crate) fn spread_found(
     ensures none { IfOk result (λ done. IfNone done (lists.new ≡ lists.old)) }
     ensures refused { IfErr result (IsCause plan.now (records_of bytes.now)) }
 {
+    let _size = bytes.len();
     let Some(mut rows) = FoundRows::of(alloc, bytes) else {
         return Ok(None);
     };

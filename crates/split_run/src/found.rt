@@ -27,6 +27,7 @@ pub(crate) fn add_found(
     ensures none { IfOk result (λ done. IfNone done (groups.new ≡ groups.old)) }
     ensures refused { IfErr result (IsCause plan.now (records_of bytes.now)) }
 {
+    let _size = bytes.len();
     let Some(mut rows) = FoundRows::of(alloc, bytes) else {
         return Ok(None);
     };
