@@ -32,7 +32,6 @@ unfolding state_after
 none-state s = refl
 
 module _ (s : State) (xs : List ℕ) (i : ℕ) (low : i < length xs) where
-
   pub stays-at : Stays s xs → ends_field (step default_config (state_after s (take i xs)) (get_or xs i 0)).1 ≡ false
   stays-at h =
       let whole : xs ≡ take i xs ++ (get_or xs i 0 ∷ drop (i + 1) xs) = sym (take-append-drop i xs) ∙ ap (λ (rest : List ℕ). take i xs ++ rest) (drop_more xs i 0 low) in

@@ -72,8 +72,8 @@ pub pushed-written : (text copied written now : List ℕ) (list : List Span) (co
     → map (field_in text now) (take (count + 1) (set list count (record { start = start; end = end; is_copied = true }))) ≡ map (field_in text copied) (take count list) ++ written ∷ []
 pushed-written text copied written now list count start end room old is first last =
     rw (last, first, is) (
-      let span : Span = record { start = length copied; end = length (copied ++ written); is_copied = true } in
-      let size = length-append copied written in
-      let within : IsSpan text (copied ++ written) span = record { order = omega (arith, size); within = omega arith } in
-      pushed-fields text copied written list count span room old within ∙ ap (λ (f : List ℕ). map (field_in text copied) (take count list) ++ f ∷ []) (last-copied copied written)
+    let span : Span = record { start = length copied; end = length (copied ++ written); is_copied = true } in
+    let size = length-append copied written in
+    let within : IsSpan text (copied ++ written) span = record { order = omega (arith, size); within = omega arith } in
+    pushed-fields text copied written list count span room old within ∙ ap (λ (f : List ℕ). map (field_in text copied) (take count list) ++ f ∷ []) (last-copied copied written)
     )

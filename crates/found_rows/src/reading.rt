@@ -275,4 +275,3 @@ fn judge_number(field: &[u8], places: u32, op: FilterOp, value: i64) -> Option<b
         None => None,
     }
 }
-

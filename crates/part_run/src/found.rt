@@ -1,9 +1,12 @@
 //! The rows of a piece, put into lists as they are found, with no store between.
 
-ghost use Rattle.std.specs.Prelude.{◌≡◌, ◌<◌, ◌^◌, ◌∷◌, [], All, IfErr, IfNone, IfOk, IfSome, OnOk, OnSome, drop, length};
+ghost use Rattle.std.specs.Prelude.{◌≡◌, ◌<◌, ◌^◌, ◌∷◌, [], All, IfErr, IfNone, IfOk, IfSome, OnOk, OnSome, drop, length, take};
 ghost use Rattle.csv_rows.specs.Records.{records_of};
 ghost use Rattle.par_model.specs.Columns.{HasColumns};
 ghost use Rattle.partial_agg.specs.Rows.{IsAccepted, header_width};
+ghost use Rattle.row_lists.specs.Carried.{carried};
+ghost use Rattle.row_lists.specs.Parts.{with_row};
+ghost use Rattle.found_rows.specs.Key.{key_in, values_in};
 ghost use Rattle.found_rows.specs.Refused.{SomeRefused};
 ghost use Rattle.split_run.specs.Causes.{IsCause};
 ghost use Rattle.part_run.specs.Carrying.{spread};
@@ -86,9 +89,21 @@ fn spread_row(
             item: refusal.item,
         }),
         RowStatus::LeftOut => Ok(()),
-        RowStatus::Kept => match lists.push(buffer.key(), buffer.values(plan.items().len())) {
+        RowStatus::Kept => match push_found(buffer, plan, lists) {
             Ok(()) => Ok(()),
             Err(AllocError) => Err(BlockAnswer::Memory),
         },
     }
+}
+
+/// Puts the row that was read into the list of its part.
+#[inline(always)]
+fn push_found(
+    buffer: &FoundBuffer,
+    plan: &BoundPlan,
+    lists: &mut PartLists,
+) -> Result<(), AllocError>
+    ensures { OnOk result (lists.new ≡ with_row lists.old (carried (key_in buffer.now) (take (length plan.now.items) (values_in buffer.now)))) }
+{
+    lists.push(buffer.key(), buffer.values(plan.items().len()))
 }

@@ -1,9 +1,11 @@
 //! The rows of a piece, added to a map as they are found, with no store between.
 
-ghost use Rattle.std.specs.Prelude.{◌≡◌, ◌<◌, ◌^◌, ◌∷◌, [], All, IfErr, IfNone, IfOk, IfSome, OnOk, OnSome, drop, length};
+ghost use Rattle.std.specs.Prelude.{◌≡◌, ◌<◌, ◌^◌, ◌∷◌, [], All, IfErr, IfNone, IfOk, IfSome, OnOk, OnSome, drop, length, take};
 ghost use Rattle.csv_rows.specs.Records.{records_of};
 ghost use Rattle.par_model.specs.Columns.{HasColumns};
-ghost use Rattle.partial_agg.specs.Groups.{with_rows};
+ghost use Rattle.partial_agg.specs.Groups.{added, with_rows};
+ghost use Rattle.partial_agg.specs.Values.{values_state};
+ghost use Rattle.found_rows.specs.Key.{key_in, values_in};
 ghost use Rattle.partial_agg.specs.Rows.{IsAccepted, header_width};
 ghost use Rattle.found_rows.specs.Refused.{SomeRefused};
 ghost use Rattle.split_run.specs.Causes.{IsCause};
@@ -85,9 +87,21 @@ fn add_row(
             item: refusal.item,
         }),
         RowStatus::LeftOut => Ok(()),
-        RowStatus::Kept => match groups.add_values(buffer.key(), buffer.values(plan.items().len())) {
+        RowStatus::Kept => match add_kept(buffer, plan, groups) {
             Ok(()) => Ok(()),
             Err(AllocError) => Err(BlockAnswer::Memory),
         },
     }
+}
+
+/// Adds the row that was read to a map.
+#[inline(always)]
+fn add_kept(
+    buffer: &FoundBuffer,
+    plan: &BoundPlan,
+    groups: &mut GroupMap,
+) -> Result<(), AllocError>
+    ensures { OnOk result (groups.new ≡ added groups.old (key_in buffer.now) (values_state (take (length plan.now.items) (values_in buffer.now)))) }
+{
+    groups.add_values(buffer.key(), buffer.values(plan.items().len()))
 }
