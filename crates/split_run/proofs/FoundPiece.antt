@@ -3,7 +3,7 @@ use Rattle.std.proofs.Common.{◌≡◌, ◌≢◌, ◌<◌, ◌≤◌, ◌+◌,
 use Rattle.std.specs.Prelude.{◌==◌}
 use Rattle.std.proofs.lemmas.Bool.{and_parts, eqb-true}
 use Rattle.std.proofs.lemmas.List.{drop_more, get_or-drop, take_more}
-use Rattle.std.proofs.lemmas.List.Elements.{All-push}
+use Rattle.std.proofs.lemmas.List.Elements.{All-nil, All-push}
 use Rattle.csv_rows.specs.Readings.{cleaned, exchanged, is_plain, keeps_all, records_as}
 use Rattle.csv_rows.specs.Records.{records_of}
 use Rattle.csv_rows.specs.declared.cleaning.Reading.{Reading}
@@ -24,6 +24,7 @@ use Rattle.partial_agg.proofs.OneRow.{state_of_one}
 use Rattle.partial_agg.proofs.Refusals.{counted_is_readable}
 use Rattle.row_blocks.specs.Blocks.{Table}
 use Rattle.found_rows.specs.Refused.{SomeRefused}
+use Rattle.split_run.specs.Causes.{IsCause}
 
 -- by a plain reading the records are those of the bytes
 pub read-plainly : (reading : Reading) (bytes : List ℕ) → is_plain reading ≡ true → records_as reading bytes ≡ records_of bytes
@@ -77,7 +78,26 @@ module _ (all rest : Table) (row : List (List ℕ)) (at : ℕ) (is : drop at all
   pub accepted-next : (plan : Plan) (width : ℕ) → All (IsAccepted plan width) (take at all) → IsAccepted plan width row → All (IsAccepted plan width) (take (at + 1) all)
   accepted-next plan width before now = subst (λ (l : Table). All (IsAccepted plan width) l) (sym next-front) (All-push (IsAccepted plan width) (take at all) row before now)
 
+  here : (plan : Plan) (width : ℕ) → All (IsAccepted plan width) all → All (IsAccepted plan width) (row ∷ [])
+  here plan width accepted =
+      let one : IsAccepted plan width row = subst (λ (r : List (List ℕ)). IsAccepted plan width r) (sym next-row) (accepted at [] there) in
+      All-push (IsAccepted plan width) [] row (All-nil (IsAccepted plan width)) one
+
+  -- an answer on the next row is one on all of them
+  pub refused-next : (plan : Plan) (width : ℕ) (why : BlockAnswer) → SomeRefused plan width (row ∷ []) why → SomeRefused plan width all why
+  refused-next plan width (answer.Row number cause item) h = λ accepted. h (here plan width accepted)
+  refused-next plan width answer.Memory h = tt
+
 -- an answer on some of the rows is one on all of them
 pub refused-among : (plan : Plan) (width : ℕ) (all : Table) (at : ℕ) (why : BlockAnswer) → SomeRefused plan width (drop at all) why → SomeRefused plan width all why
 refused-among plan width all at (answer.Row row cause item) h = λ accepted. h (λ k d lt. subst (λ (r : List (List ℕ)). IsAccepted plan width r) (sym (get_or-drop at all k d)) (accepted (at + k) d (omega (arith, lt, length-drop at all))))
 refused-among plan width all at answer.Memory h = tt
+
+-- and one on a table, if the first record is that of its columns
+pub cause-of : (plan : Plan) (header : List (List ℕ)) (rows : Table) (width : ℕ) (why : BlockAnswer) → width ≡ length header → SomeRefused plan width rows why → IsCause plan (header ∷ rows) why
+cause-of plan header rows width (answer.Row row cause item) is h = λ accepted. h (subst (λ (w : ℕ). All (IsAccepted plan w) rows) (sym is) accepted)
+cause-of plan header rows width answer.Memory is h = tt
+
+-- none is left
+pub all-found : (all : Table) (at : ℕ) → drop at all ≡ [] → length all ≤ at
+all-found all at is = omega (arith, ap (length {A = List (List ℕ)}) is, length-drop at all)
