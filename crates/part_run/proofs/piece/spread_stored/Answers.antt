@@ -4,7 +4,7 @@ use Rattle.csv_rows.specs.declared.cleaning.Reading.{Reading}
 use Rattle.row_blocks.specs.Blocks.{Table}
 use Rattle.split_run.specs.Causes.{IsCause}
 use Rattle.split_run.specs.Pieces.{piece_records}
-use Rattle.part_run.proofs.piece.spread_piece.Goals as goal
+use Rattle.part_run.proofs.piece.spread_stored.Goals as goal
 
 -- the records that were read are those of the piece
 pub returns-clause-refused : goal.returns-clause-refused
