@@ -1,6 +1,7 @@
 //! The rows of one piece, read and put into the lists of their parts.
 
-ghost use Rattle.std.specs.Prelude.{◌≡◌, ◌∷◌, [], All, IfErr, IfOk, OnOk, drop, length, take};
+ghost use Rattle.std.specs.Prelude.{◌≡◌, ◌∷◌, [], All, IfErr, IfOk, OnOk, drop, length, take, true};
+ghost use Rattle.csv_rows.specs.Readings.{is_plain};
 ghost use Rattle.par_model.specs.Columns.{HasColumns};
 ghost use Rattle.partial_agg.specs.Blocks.{ExplainsRow};
 ghost use Rattle.partial_agg.specs.Reading.{key_in, values_in};
@@ -19,7 +20,7 @@ use row_lists::PartLists;
 use row_windows::Window;
 use std::alloc::{AllocError, Global};
 
-/// Reads the rows of a piece, puts them into lists, and gives their number. The store of the rows is gone afterwards.
+/// Reads the rows of a piece, puts them into lists, and gives their number.
 pub(crate) fn spread_piece(
     alloc: Global,
     piece: &Window,
@@ -32,7 +33,7 @@ pub(crate) fn spread_piece(
     ensures count { IfOk result (λ count. count ≡ length (piece_rows piece.now)) }
     ensures refused { IfErr result (IsCause plan.now (piece_records piece.now)) }
 {
-    if piece.reading().is_plain() {
+    if is_found(piece) {
         match spread_found(alloc, piece.table(), plan, lists) {
             Ok(Some(count)) => return Ok(count),
             Ok(None) => {}
@@ -40,6 +41,13 @@ pub(crate) fn spread_piece(
         }
     }
     spread_stored(alloc, piece, plan, lists)
+}
+
+/// Whether the rows of a piece are to be put into lists as they are found.
+fn is_found(piece: &Window) -> bool
+    ensures { result ≡ true → is_plain piece.now.reading ≡ true }
+{
+    piece.reading().is_plain()
 }
 
 /// Reads the rows of a piece into a store, puts them into lists, and gives their number.
