@@ -112,6 +112,13 @@ impl<O: CellObject> Partition<O> {
         self.size
     }
 
+    /// The seed of the hashes of its keys.
+    pub fn seed(&self) -> u32
+        ensures { result ≡ self.now.seed }
+    {
+        self.buckets.seed()
+    }
+
     /// The number of its keys.
     pub fn count(&self) -> u64
         ensures is { result ≡ fin.len self.now.cells }
