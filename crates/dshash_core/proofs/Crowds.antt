@@ -60,7 +60,7 @@ module _ {S C R : Type 0} (step : Option S → C → Option S × R) (decoded : L
   pub chain_keys : keys_in h.layout.seed before size i ≡ length (chain_of h i)
   chain_keys =
       kept_len decoded (λ q. bucket_of size (seeded_hash h.layout.seed q) == i) (all_items h.chains) k.keyed
-      ∙ ap (λ (x : List Item). length x) (numbered (λ it. bucket_of size (seeded_hash h.layout.seed it.key)) h.chains 0 (λ j it few m. k.placed j it few m) i i refl l)
+      ∙ ap (λ (x : List Item). length x) (numbered (λ it. bucket_of size (seeded_hash h.layout.seed it.key)) h.chains 0 (λ j it few m. let z : j ≡ 0 + j = omega arith in k.placed j it few m ∙ z) i i (omega arith) l)
 
   module _ (key : List ℕ) (call : C) (longest : ℕ) (own : i ≡ bucket_of size (seeded_hash h.layout.seed key)) where
     beside : keys_in h.layout.seed before size (bucket_of size (seeded_hash h.layout.seed key)) ≡ length (chain_of h i)
@@ -68,7 +68,7 @@ module _ {S C R : Type 0} (step : Option S → C → Option S × R) (decoded : L
 
     -- a chain with fewer items isn't crowded
     pub short_chain : (longest ≤ length (chain_of h i) → ⊥) → IsCrowded step h.layout.seed size before key call longest → ⊥
-    short_chain no c = no (subst (λ (n : ℕ). longest ≤ n) beside c.long)
+    short_chain few c = few (subst (λ (n : ℕ). longest ≤ n) beside c.long)
 
     -- and none is by a key that is there
     pub key_there : (link place : ℕ) → HasItem h i link place key → IsCrowded step h.layout.seed size before key call longest → ⊥
