@@ -1,5 +1,4 @@
-use Rattle.std.proofs.Common.{List, ℕ, Option, is_some, refl, subst, sym, ◌≡◌}
-use Rattle.region_words.specs.declared.chunk.Chunk.{Chunk}
+use Rattle.std.proofs.Common.{List, ℕ, is_some, refl, subst}
 use Rattle.lock_book.specs.Shown.{opens_of, number_of, seen_of, mine_of}
 use Rattle.dshash_parts.specs.Asked.{outcome_of}
 use Rattle.dshash_parts.specs.Tables.{name_in, AtPartition}
