@@ -94,6 +94,20 @@ impl Receiver {
         answer
     }
 
+    /// Wakes a sender that sleeps in `send` or `send_parts`, if room was given back for all that was taken, or this end
+    /// was detached. `receive` does so itself. After any other call, `detach` too, a sender that sleeps looks again
+    /// within a millisecond, or at once if this call follows. One load; a store and a system call only if the sender
+    /// sleeps.
+    #[inline]
+    pub fn wake_sender(&mut self, r: &Region)
+        requires here { self.old.region ≡ r.now }
+        ensures { self.new ≡ self.old }
+    {
+        if self.taken.unreturned == 0 || self.gone {
+            self.rx.wake_sender(r);
+        }
+    }
+
     /// The message of the last receive call, if it answered Message; else nothing. It is lent from the receiver's
     /// buffer, without a copy, up to the next receive call.
     pub fn message(&self) -> &[u8]

@@ -146,6 +146,19 @@ impl Sender {
         answer
     }
 
+    /// Wakes a receiver that sleeps in `receive`, if all that was put is published. `send` and `send_parts` do so
+    /// themselves. After any other call, `detach` too, a receiver that sleeps looks again within a millisecond, or at
+    /// once if this call follows. One load; a store and a system call only if the receiver sleeps.
+    #[inline]
+    pub fn wake_receiver(&mut self, r: &Region)
+        requires here { self.old.region ≡ r.now }
+        ensures { self.new ≡ self.old }
+    {
+        if self.counts.unpublished == 0 {
+            self.tx.wake_receiver(r);
+        }
+    }
+
     /// Lets the receiver see all that was put, including a part of a message. One store.
     pub fn flush(&mut self, r: &Region)
         requires here { self.old.region ≡ r.now }

@@ -6,3 +6,4 @@ pub mod Makings
 pub mod Runs
 pub mod Rows
 pub mod RowSteps
+pub mod Advice

@@ -4,8 +4,8 @@
 //! flag; the cells come after them. `ring_rule`'s `specs/Ring.antt` says who may change which word and when. The counts
 //! and the flag are atomic words; a cell is plain memory, which the sender and the receiver have in turn. Each call of
 //! an end is one load or one store of one of these words, so a reader of the contracts knows what the other end can see
-//! between any two calls. An end knows of the other only what it has loaded, and what it learnt by `meet`. No call
-//! waits, takes memory or refuses.
+//! between any two calls. An end knows of the other only what it has loaded, and what it learnt by `meet`. No call but
+//! `sleep` waits, and none takes memory or refuses. Who sleeps is advice, of which no clause speaks (`sleeping`).
 
 #![tactic(auto)]
 
@@ -17,6 +17,7 @@ mod place;
 mod receiver;
 mod sender;
 mod site;
+mod sleeping;
 
 pub use done::{RingDone, home};
 pub use making::{Ring, is_ring_size};

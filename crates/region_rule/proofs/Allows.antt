@@ -363,6 +363,51 @@ store_allows count slots id k n u Then word inside go s r more here fits =
         let its = sound.honest j f.view (sees s.views r.0 j f e) in
         not_out r.0 f.view k f.out (λ m. word_free r.0 f.view u k m word (shared r.0 s j id k f (idle u) sound e here (λ v. other (sym v)) (take_holds r.0 f.view k its m) mine)) (t.outs j f e))
 
+-- A STORE IN A TABLE'S WORD, IF THE TOKEN'S WORD OF THAT NUMBER LIES IN ITS SLOT, IS NO EVENT
+pub advise_allows : (count slots id k n : ℕ) (u : View) → InSlot u k → Allows (Ruled count) slots id (idle u, []) k (λ _. n) (λ _ after. after ≡ (idle u, []))
+advise_allows count slots id k n u slot s r more here fits = (
+  idle u,
+  keeps,
+  tt,
+  subst (λ (ts : List Token). Ruled count record { words = set s.words k n; homes = s.homes; views = ts }) (sym (set_again s.views id (idle u) here)) (r.0, r.1, table),
+  refl,
+)
+  where
+    sound : Sound (world_of r.0 s.views)
+    sound = reached_sound count r.0 (views_of s.views) r.1
+
+    t : Placed count r.0 s
+    t = r.2
+
+    mine : Holds u k
+    mine = slot_holds r.0 u k ((reached_sound count r.0 (views_of s.views) r.1).honest id u (sees s.views r.0 id (idle u) here)) slot
+
+    nowhere : (j : ℕ) (h : Token) → get_elem? s.views j ≡ some h → InWord h.view k → ⊥
+    nowhere j h e c = dite (ℕ_discrete j id)
+        (λ (z : j ≡ id). one_place u k slot (subst (λ (y : Token). InWord y.view k) (some-injective h (idle u) (sym e ∙ ap (get_elem? s.views) z ∙ here)) c))
+        (λ (other : j ≢ id).
+        let its = sound.honest j h.view (sees s.views r.0 j h e) in
+        slot_free r.0 h.view u k c slot (shared r.0 s j id k h (idle u) sound e here (λ z. other (sym z)) (word_holds r.0 h.view k its c) mine))
+
+    copied_by_none : (j : ℕ) (h : Token) → get_elem? s.views j ≡ some h → h.from ≤ k → k < h.from + h.copied → ⊥
+    copied_by_none j h e low high = dite (ℕ_discrete j id)
+        (λ (z : j ≡ id).
+        let none : h.from + h.copied ≡ 0 = ap (λ (y : Token). y.from + y.copied) (some-injective h (idle u) (sym e ∙ ap (get_elem? s.views) z ∙ here)) in absurd (omega arith))
+        (λ (other : j ≢ id). let sole = (t.copies j h e k low high).0 in sole_free r.0 u h.view k sole (shared r.0 s id j k (idle u) h sound here e other mine (sole_holds h.view k sole)))
+
+    table : Placed count r.0 record { words = set s.words k n; homes = s.homes; views = s.views }
+    table = record {
+      counted = length-set {A = ℕ} s.words k n ∙ t.counted;
+      outs = t.outs;
+      copies = λ i g e q low high.
+          let old = t.copies i g e q low high in
+          let other : q ≢ k = λ z. copied_by_none i g e (subst (λ (b : ℕ). g.from ≤ b) z low) (subst (λ (b : ℕ). b < g.from + g.copied) z high) in
+          (old.0, λ x f. copied_moves g.view s.words (set s.words k n) s.homes s.homes q x (set_else s.words k q n other) refl (old.1 x f));
+      filled = t.filled;
+      at_home = t.at_home;
+      in_word = λ i g q x e c f. let other : q ≢ k = λ z. nowhere i g e (subst (InWord g.view) z c) in set_else s.words k q n other ∙ t.in_word i g q x e c f;
+    }
+
 -- AN OWNER COPIES THE WORD THAT IT HAS OUT
 pub copy_allows : (count slots id k x : ℕ) (m : WordMap) (o : Olds) (from n : ℕ) → k ≡ from + n → Has m k → k < count → slots ≡ count
     → Allows (Ruled count) slots id (taking (Own m o) k x from n, (k, x) ∷ []) k (λ _. x) (λ _ after. after ≡ (copying (Own m o) from (suc n), []))

@@ -24,7 +24,7 @@ pub use laws::{
     store_written_law,
 };
 pub use plays::{
-    Begins, Copies, Cuts, Ends, Freezes, Gathers, GivesBack, Glues, Learns, Leaves, Loads,
+    Advises, Begins, Copies, Cuts, Ends, Freezes, Gathers, GivesBack, Glues, Learns, Leaves, Loads,
     LoadsCount, LoadsDone, LoadsFlag, LoadsFrozen, LooksRead, LooksWritten, Makes, Meeting,
     Publishes, Puts, PutsRow, Range, Shape, Shares, Stores, Takes, TakesOut, TakesRow, TakesRowOut,
 };

@@ -235,6 +235,15 @@ impl Play<u64, Known> for LoadsFlag {
     ghost then = { λ step before found after. TellsFlag before.0.view found after.0.view × IsIdle after after.0.view };
 }
 
+/// A store in the table's word of the number of a word that lies in its slot, such as a cell of a ring. It is no step of
+/// the region: no token looks for a word there, and no rule says what is in it. So the ends of a ring may leave each
+/// other advice there.
+pub struct Advises;
+
+impl Play<u64, Known> for Advises {
+    ghost then = { λ step before found after. after ≡ before };
+}
+
 /// Which ring is made. A call chooses it.
 pub trait Shape {
     ghost ring: { Ring };

@@ -20,6 +20,8 @@ use atomic_table::{Join, Play, Refused, Seat, Shared, Split, Table};
 use region_rule::{Copies, Known, Range, RegionRule, TakesOut, TakesRowOut};
 use std::alloc::{AllocError, Global};
 use std::marker::{Brand, Model};
+use std::sync::Wait;
+use std::time::Duration;
 use twin_table::Twin;
 
 /// A fixed array of words that all threads see. Contracts see which one it is, with the number of its words.
@@ -129,6 +131,29 @@ impl Region {
         ensures told { M.then (step self.now.slots at value 0 none) seat.old.me value seat.new.me }
     {
         self.shared().store::<M>(seat, at as usize, value);
+    }
+
+    /// A load of the table's word by no token, which tells nothing.
+    #[inline]
+    pub fn peek(&self, at: u64) -> u64
+        requires inside { at < self.now.words }
+    {
+        self.shared().peek(at as usize)
+    }
+
+    /// Sleeps if the low 32 bits of the table's word are `expected`, until a wake, and for no longer than `time`. It may
+    /// also return for no reason.
+    pub fn park_timeout<R: Wait>(&self, rt: &R, at: u64, expected: u32, time: Duration)
+        requires inside { at < self.now.words }
+    {
+        self.shared().park_timeout(rt, at as usize, expected, time);
+    }
+
+    /// Wakes one thread that sleeps on the table's word, if there is one.
+    pub fn wake_one(&self, at: u64)
+        requires inside { at < self.now.words }
+    {
+        self.shared().wake_one(at as usize);
     }
 
     /// The value of a word that lies in its slot, by a token of any kind: two loads of word 0, of which the second

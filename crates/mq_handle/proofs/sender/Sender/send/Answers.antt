@@ -2,4 +2,4 @@ use Rattle.mq_handle.proofs.SendTries.{stays_on}
 use Rattle.mq_handle.proofs.sender.Sender.send.Goals as goal
 
 pub returns-in-Sent-clause-stays : goal.returns-in-Sent-clause-stays
-returns-in-Sent-clause-stays g c = stays_on c.args.self.now.end c.loop.self.end c.try_send.new.self.end c.args.message.now c.loop.invariant.on c.try_send.ensures.stays
+returns-in-Sent-clause-stays g c = stays_on c.args.self.now.end c.loop.self.end c.send_once.new.self.end c.args.message.now c.loop.invariant.on c.send_once.ensures.stays
