@@ -4,4 +4,5 @@ pub mod Sizes
 pub mod Opening
 pub mod Shown
 pub mod Requests
+pub mod Lives
 pub mod Ending

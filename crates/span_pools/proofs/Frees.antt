@@ -8,7 +8,7 @@ use Rattle.word_map.proofs.Maps.{at-rest_out, within_is, within_true}
 use Rattle.free_pages.proofs.AreaWords.{cut_just}
 use Rattle.region_words.specs.Parts.{Owned}
 use Rattle.span_pools.specs.declared.layout.Layout.{Layout}
-use Rattle.span_pools.specs.Places.{base, place, record_at, covers, IsLayout}
+use Rattle.span_pools.specs.Places.{base, place, record_at, covers, object_of, IsLayout}
 use Rattle.span_pools.specs.Shape.{IsShape}
 use Rattle.span_pools.specs.Legal.{PoolState, object_in, IsFreed, IsEmptied, IsStranger}
 use Rattle.span_pools.specs.View.{mark_of, owns, first_word, state_of, IsRecordOf, IsMarked, IsPutBack, IsReleased, IsPool}
@@ -16,7 +16,7 @@ use Rattle.span_pools.proofs.FreeLists.{has_live, room_most, rest_free}
 use Rattle.span_pools.proofs.Covers.{place_in, place_covers, no_common, in_object, other_object, parted}
 use Rattle.span_pools.proofs.Shapes.{shape_more, shape_given, shape_whole, records_given}
 use Rattle.span_pools.proofs.RecordStores.{union_any, union_keys, union_else, apart_none}
-use Rattle.span_pools.proofs.Views.{seen_there, seen_past, seen_none}
+use Rattle.span_pools.proofs.Views.{of_seen, seen_there, seen_past, seen_none}
 use Rattle.span_pools.proofs.Pools.{no_bool, book_same, records_same, rest_keys, seen_same, settled_now, elsewhere, record_apart}
 
 some_same : (x y : ℕ) → Some x ≡ Some y → x ≡ y
@@ -249,11 +249,12 @@ run_just l active page index at_word marks records words part records2 words2 ru
   subst (λ (o : Owned). HasJust o.words (record_at l page) 112) (sym d.control_is) (cut_just records.words (record_at l page) 112 (λ k x y. p.records_are.all page k m (within_true (record_at l page) 112 k x y))),
 )
 
--- no superblock has an object at this place
+-- no superblock has an object at this place, and the pool does not own its word
 pub stranger_is : (l : Layout) (active : Option ℕ) (at_word bytes : ℕ) (marks words : WordMap) (after : PoolState) → IsShape l (mark_of l marks) (owns words) → ((q i : ℕ) → mark_of l marks q ≡ true → i < l.objects → at_word ≢ place l q i)
-    → after ≡ state_of l active marks words → IsStranger l (state_of l active marks words) at_word bytes after
-stranger_is l active at_word bytes marks words after s none e = record {
+    → (bytes ≡ 8 * l.size → owns words at_word ≡ false) → after ≡ state_of l active marks words → IsStranger l (state_of l active marks words) at_word bytes after
+stranger_is l active at_word bytes marks words after s none out e = record {
   none = λ q i at_place _. go q i at_place (mark_of l marks q) refl;
+  inside = λ q there has long. live q (of_seen l active marks words q 0 s there).0 has (out long);
   same = e;
 }
   where
@@ -263,3 +264,10 @@ stranger_is l active at_word bytes marks words after s none e = record {
         (λ (many : l.objects ≤ i). seen_past l active marks words q i m (s.inside q m) many)
         (cases_lt i l.objects)
     go q i at_place false m = seen_none l active marks words q i m
+
+    live : (q : ℕ) → mark_of l marks q ≡ true → covers l q at_word ≡ true → owns words at_word ≡ false → object_in (state_of l active marks words) q (object_of l q at_word) ≡ Some true
+    live q m has free = ⊎_elim
+        (λ (low : object_of l q at_word < l.objects).
+        seen_there l active marks words q (object_of l q at_word) m (s.inside q m) low ∙ ap (λ (b : Bool). Some (not b)) (sym (s.objects q at_word m has low) ∙ free))
+        (λ (many : l.objects ≤ object_of l q at_word). absurd (no_bool (owns words at_word) (s.tail q at_word m has many) free))
+        (cases_lt (object_of l q at_word) l.objects)

@@ -15,3 +15,4 @@ pub mod FreeCounts
 pub mod Spares
 pub mod Batches
 pub mod Trims
+pub mod Lives

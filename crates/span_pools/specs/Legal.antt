@@ -5,7 +5,7 @@ use Rattle.std.specs.Prelude.{◌≡◌, ◌≢◌, ℕ, ◌+◌, ◌*◌, ◌<�
 use Rattle.std.specs.List.{slice_get}
 use Rattle.free_pages.specs.Area.{superblock_pages}
 use Rattle.span_pools.specs.declared.layout.Layout.{Layout}
-use Rattle.span_pools.specs.Places.{base, place}
+use Rattle.span_pools.specs.Places.{base, place, covers, object_of}
 
 -- a superblock: the page at which it begins, and of each of its objects whether it is live (dsa_area_span of dsa.c says
 -- it by a count and a list of the free objects)
@@ -145,9 +145,12 @@ pub record IsEmptied (l : Layout) (before : PoolState) (at bytes run : ℕ) (aft
   pub active : after.active ≡ before.active
   pub settled : IsSettled l after
 
--- no superblock has an object at this place and of this size (dsa.c trusts its callers; the answer is ours)
+-- No superblock has an object at this place and of this size, live or free (dsa.c trusts its callers; the answer is
+-- ours). If a superblock has the place at all, it is inside a live object: what is handed back has no free word, and no
+-- word behind the last object
 pub record IsStranger (l : Layout) (before : PoolState) (at bytes : ℕ) (after : PoolState) : Type 0 where
   pub none : (p i : ℕ) → at ≡ place l p i → bytes ≡ 8 * l.size → object_in before p i ≡ None
+  pub inside : (p : ℕ) → IsSome (object_in before p 0) → covers l p at ≡ true → bytes ≡ 8 * l.size → object_in before p (object_of l p at) ≡ Some true
   pub same : after ≡ before
 
 -- objects become live one after another, in this order, each as by a separate call

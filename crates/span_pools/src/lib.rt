@@ -10,11 +10,13 @@
 mod batch;
 mod find;
 mod histories;
+mod laws;
 mod layout;
 mod marks;
 mod objects;
 mod pool;
 
 pub use histories::{PoolCalls, PoolName, PoolReplies, PoolStates};
+pub use laws::live_objects_stay;
 pub use layout::Layout;
 pub use pool::Pool;

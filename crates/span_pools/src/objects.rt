@@ -14,7 +14,7 @@ ghost use Rattle.span_pools.specs.View.{IsRecordOf, HasRoom, IsNext, IsTakenOut,
 
 use crate::layout::{Layout, SUPERBLOCK_RECORDS, SUPERBLOCK_WORDS};
 use free_pages::{PAGE_WORDS, RECORD_WORDS};
-use region_words::{Part, Region};
+use region_words::{Chunk, Part, Region};
 
 /// How many objects of the superblock at a page are free.
 pub(crate) fn room(records: &mut Part, r: &Region, layout: Layout, page: u64) -> u64
@@ -155,4 +155,17 @@ pub(crate) fn release(
         run,
         records.split(r, layout.records + RECORD_WORDS * page, SUPERBLOCK_RECORDS),
     )
+}
+
+/// Hands an object back that no superblock has. Its words are joined to those that the pool owns and cut off again,
+/// since a join tells that the two have none in common.
+pub(crate) fn hand_back(words: &mut Part, r: &Region, object: Chunk) -> Chunk
+    requires here { (words.old.region ≡ r.now) × (object.part.region ≡ r.now) }
+    ensures same { words.new ≡ words.old }
+    ensures back { result ≡ object }
+    ensures apart { Disjoint words.old.words object.part.words }
+{
+    let Chunk { at, bytes, part } = object;
+    words.join(r, part);
+    words.split_chunk(r, at.word(), bytes / 8)
 }

@@ -17,7 +17,7 @@ ghost use Rattle.span_pools.specs.PoolView.{pool_view, layout_of, IsSuperblock};
 use crate::find::{first_page, free_page, holder};
 use crate::layout::{Layout, layout_for};
 use crate::marks::{clear_mark, clear_marks, set_mark};
-use crate::objects::{admit, put_object, release, room, take_object};
+use crate::objects::{admit, hand_back, put_object, release, room, take_object};
 use free_pages::{PAGE_WORDS, SUPERBLOCK_PAGES};
 use region_words::{Chunk, Part, Region, Run};
 use rel_pointer::RelPtr;
@@ -163,8 +163,9 @@ impl Pool {
     }
 
     /// Takes an object back. If it was the last live one of a superblock that is not the active one, gives the
-    /// superblock back. Hands the object back if no superblock has an object at this place and of this size. Looks at
-    /// one bit if the active superblock has the object, and else at 16 at most.
+    /// superblock back. Hands the object back if no superblock has an object at this place and of this size; then it
+    /// has no word that is free, so it is not one that came back before. Looks at one bit if the active superblock has
+    /// the object, and else at 16 at most.
     pub fn free(&mut self, r: &Region, object: Chunk) -> Result<Option<Run>, Chunk>
         requires here { (self.old.region ≡ r.now) × (object.part.region ≡ r.now) }
         ensures same { self.new ≡ record self.old { state = self.new.state } }
@@ -179,7 +180,7 @@ impl Pool {
         }
         let place = object.at.word();
         let Some(page) = holder(self.active, &mut self.marks, r, self.layout, place) else {
-            return Err(object);
+            return Err(hand_back(&mut self.words, r, object));
         };
         let Chunk {
             at: _,

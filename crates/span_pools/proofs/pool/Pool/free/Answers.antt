@@ -4,10 +4,11 @@ use Rattle.span_pools.specs.Legal.{IsStranger, IsEmptied, IsFreed}
 use Rattle.span_pools.specs.View.{free_objects, state_of, IsSpare, IsMarked, IsReleased, IsPutBack, IsPool}
 use Rattle.span_pools.specs.PoolView.{PoolView, IsSuperblock}
 use Rattle.word_map.specs.WordMap.{HasJust}
+use Rattle.word_map.proofs.Maps.{within_true}
 use Rattle.span_pools.proofs.Pools.{no_bool}
 use Rattle.span_pools.proofs.FreeLists.{room_most}
 use Rattle.span_pools.proofs.Covers.{objects_small}
-use Rattle.span_pools.proofs.RecordStores.{some_same}
+use Rattle.span_pools.proofs.RecordStores.{apart_none, some_same}
 use Rattle.span_pools.proofs.Frees.{is_last, after_free, free_legal, last_whole, after_emptied, emptied_legal, run_just, stranger_is}
 use Rattle.span_pools.proofs.FreeCounts.{count_emptied, count_few, count_free}
 use Rattle.span_pools.proofs.Spares.{spare_emptied, spare_freed}
@@ -22,8 +23,14 @@ eighth bytes size e = omega arith
 
 pub returns-in_default-clause-refused : goal.returns-in_default-clause-refused
 returns-in_default-clause-refused c =
-    subst (λ (b : PoolView). IsStranger b.layout b.state c.args.object.at c.args.object.bytes (state_of c.self.inside.layout c.self.inside.active c.holder.new.marks.words c.self.inside.words.words)) c.self.view_is
-    (stranger_is c.self.inside.layout c.self.inside.active c.args.object.at c.args.object.bytes c.self.inside.marks.words c.self.inside.words.words _ c.self.invariant.0.shape (λ q i m low e. c.in_default.ensures.none q i m low (c.word-place.ensures ∙ e)) (ap (λ (o : Owned). state_of c.self.inside.layout c.self.inside.active o.words c.self.inside.words.words) c.in_default.ensures.same))
+    let l = c.self.inside.layout in
+    let active = c.self.inside.active in
+    let x = c.args.object in
+    let long : x.bytes ≡ 8 * l.size → 1 ≤ x.bytes / 8 = λ e. let s = c.self.invariant.0.layout.size in omega (arith, s, e) in
+    subst (λ (b : PoolView). IsStranger b.layout b.state x.at x.bytes (state_of l active c.holder.new.marks.words c.hand_back.new.words.words)) c.self.view_is
+    (stranger_is l active x.at x.bytes c.self.inside.marks.words c.self.inside.words.words _ c.self.invariant.0.shape (λ q i m low e. c.in_default.ensures.none q i m low (c.word-place.ensures ∙ e))
+    (λ e. let some = long e in apart_none c.self.inside.words.words x.part.words x.at (x.bytes / 8) x.at c.hand_back.ensures.apart x.just (within_true x.at (x.bytes / 8) x.at (omega arith) (omega (arith, some))))
+    (ap (λ (o : Owned). state_of l active o.words c.hand_back.new.words.words) c.in_default.ensures.same ∙ ap (λ (o : Owned). state_of l active c.self.inside.marks.words o.words) c.hand_back.ensures.same))
 
 pub overflow_add-free : goal.overflow_add-free
 overflow_add-free c =
