@@ -1,11 +1,11 @@
 -- Laws of histories: longer ones, beginnings, and one caller's calls.
-use Rattle.std.proofs.Common.{◌≡◌, ◌≢◌, ℕ, zero, suc, ◌<◌, ◌≤◌, eqb, Bool, true, false, cond, List, [], ◌∷◌, ◌++◌, length, sym, refl, ap, ◌∙◌, subst, arith, append_assoc, append-nil, length-append, eq-eqb, ne_eqb}
+use Rattle.std.proofs.Common.{◌≡◌, ◌≢◌, ℕ, zero, suc, ◌<◌, ◌≤◌, eqb, Bool, true, false, cond, List, [], ◌∷◌, ◌++◌, length, map, sym, refl, ap, ◌∙◌, subst, arith, append_assoc, append-nil, length-append, eq-eqb, ne_eqb}
 use Rattle.std.specs.Prelude.{ltb}
 use Rattle.std.proofs.lemmas.Bool.Decides.{nat_tests}
 use mathlib.Core.Logic.{dite}
 use native.Mathlib.Decide.{ℕ_discrete}
 use Rattle.lock_book.specs.declared.view.Entry.{Entry}
-use Rattle.lock_book.specs.History.{entry, last_of, calls_by, calls_at, StartsWith, IsLegal, longer, row_at, put_row, longer_rows}
+use Rattle.lock_book.specs.History.{entry, last_of, calls_by, calls_at, AreBy, StartsWith, IsLegal, longer, row_at, put_row, longer_rows}
 
 module _ {S C R : Type 0} where
   pub starts_refl : (xs : List (Entry S C R)) → StartsWith xs xs
@@ -28,21 +28,55 @@ module _ {S C R : Type 0} where
   calls_by-append n [] ys = refl
   calls_by-append n (x ∷ xs) ys = kept (eqb x.by n) x (calls_by n (xs ++ ys)) (calls_by n xs) (calls_by n ys) (calls_by-append n xs ys)
 
-  pub calls_by_mine : (n : ℕ) (xs : List (Entry S C R)) (c : C) (r : R) (a : S) → calls_by n (xs ++ entry n c r a ∷ []) ≡ calls_by n xs ++ entry n c r a ∷ []
-  calls_by_mine n xs c r a = calls_by-append n xs (entry n c r a ∷ []) ∙ ap (λ (b : Bool). calls_by n xs ++ cond b (entry n c r a ∷ []) []) (eq-eqb n n refl)
-
-  pub calls_by_other : (n m : ℕ) (xs : List (Entry S C R)) (c : C) (r : R) (a : S) → m ≢ n → calls_by n (xs ++ entry m c r a ∷ []) ≡ calls_by n xs
-  calls_by_other n m xs c r a ne = calls_by-append n xs (entry m c r a ∷ []) ∙ (ap (λ (b : Bool). calls_by n xs ++ cond b (entry m c r a ∷ []) []) (ne_eqb m n ne) ∙ append-nil (calls_by n xs))
-
   pub calls_at-append : (i : ℕ) (xs ys : List (ℕ × Entry S C R)) → calls_at i (xs ++ ys) ≡ calls_at i xs ++ calls_at i ys
   calls_at-append i [] ys = refl
   calls_at-append i (x ∷ xs) ys = kept (eqb x.0 i) x.1 (calls_at i (xs ++ ys)) (calls_at i xs) (calls_at i ys) (calls_at-append i xs ys)
 
-  pub calls_at_here : (i : ℕ) (xs : List (ℕ × Entry S C R)) (e : Entry S C R) → calls_at i (xs ++ (i, e) ∷ []) ≡ calls_at i xs ++ e ∷ []
-  calls_at_here i xs e = calls_at-append i xs ((i, e) ∷ []) ∙ ap (λ (b : Bool). calls_at i xs ++ cond b (e ∷ []) []) (eq-eqb i i refl)
+  -- entries of one caller are its own, and nobody else's
+  calls_by_own : (n : ℕ) (es : List (Entry S C R)) → AreBy n es → calls_by n es ≡ es
+  calls_by_own n [] by = refl
+  calls_by_own n (e ∷ es) by = ap (λ (b : Bool). cond b (e ∷ calls_by n es) (calls_by n es)) (eq-eqb e.by n by.0) ∙ ap (λ (m : List (Entry S C R)). e ∷ m) (calls_by_own n es by.1)
 
-  pub calls_at_other : (i j : ℕ) (xs : List (ℕ × Entry S C R)) (e : Entry S C R) → j ≢ i → calls_at i (xs ++ (j, e) ∷ []) ≡ calls_at i xs
-  calls_at_other i j xs e ne = calls_at-append i xs ((j, e) ∷ []) ∙ (ap (λ (b : Bool). calls_at i xs ++ cond b (e ∷ []) []) (ne_eqb j i ne) ∙ append-nil (calls_at i xs))
+  calls_by_none : (n m : ℕ) (es : List (Entry S C R)) → AreBy m es → m ≢ n → calls_by n es ≡ []
+  calls_by_none n m [] by ne = refl
+  calls_by_none n m (e ∷ es) by ne = ap (λ (b : Bool). cond b (e ∷ calls_by n es) (calls_by n es)) (ne_eqb e.by n (λ z. ne (sym by.0 ∙ z))) ∙ calls_by_none n m es by.1 ne
+
+  pub calls_by_all : (n : ℕ) (xs es : List (Entry S C R)) → AreBy n es → calls_by n (xs ++ es) ≡ calls_by n xs ++ es
+  calls_by_all n xs es by = calls_by-append n xs es ∙ ap (λ (m : List (Entry S C R)). calls_by n xs ++ m) (calls_by_own n es by)
+
+  pub calls_by_others : (n m : ℕ) (xs es : List (Entry S C R)) → AreBy m es → m ≢ n → calls_by n (xs ++ es) ≡ calls_by n xs
+  calls_by_others n m xs es by ne = calls_by-append n xs es ∙ (ap (λ (z : List (Entry S C R)). calls_by n xs ++ z) (calls_by_none n m es by ne) ∙ append-nil (calls_by n xs))
+
+  calls_at_own : (i : ℕ) (es : List (Entry S C R)) → calls_at i (map (λ (e : Entry S C R). (i, e)) es) ≡ es
+  calls_at_own i [] = refl
+  calls_at_own i (e ∷ es) =
+      let more : List (Entry S C R) = calls_at i (map (λ (e : Entry S C R). (i, e)) es) in
+      ap (λ (b : Bool). cond b (e ∷ more) more) (eq-eqb i i refl) ∙ ap (λ (m : List (Entry S C R)). e ∷ m) (calls_at_own i es)
+
+  calls_at_none : (i j : ℕ) (es : List (Entry S C R)) → j ≢ i → calls_at i (map (λ (e : Entry S C R). (j, e)) es) ≡ []
+  calls_at_none i j [] ne = refl
+  calls_at_none i j (e ∷ es) ne =
+      let more : List (Entry S C R) = calls_at i (map (λ (e : Entry S C R). (j, e)) es) in
+      ap (λ (b : Bool). cond b (e ∷ more) more) (ne_eqb j i ne) ∙ calls_at_none i j es ne
+
+  pub calls_at_all : (i : ℕ) (xs : List (ℕ × Entry S C R)) (es : List (Entry S C R)) → calls_at i (xs ++ map (λ (e : Entry S C R). (i, e)) es) ≡ calls_at i xs ++ es
+  calls_at_all i xs es = calls_at-append i xs (map (λ (e : Entry S C R). (i, e)) es) ∙ ap (λ (m : List (Entry S C R)). calls_at i xs ++ m) (calls_at_own i es)
+
+  pub calls_at_others : (i j : ℕ) (xs : List (ℕ × Entry S C R)) (es : List (Entry S C R)) → j ≢ i → calls_at i (xs ++ map (λ (e : Entry S C R). (j, e)) es) ≡ calls_at i xs
+  calls_at_others i j xs es ne = calls_at-append i xs (map (λ (e : Entry S C R). (j, e)) es) ∙ (ap (λ (m : List (Entry S C R)). calls_at i xs ++ m) (calls_at_none i j es ne) ∙ append-nil (calls_at i xs))
+
+  pub by_snoc : (n : ℕ) (es : List (Entry S C R)) (e : Entry S C R) → AreBy n es → e.by ≡ n → AreBy n (es ++ e ∷ [])
+  by_snoc n [] e by own = (own, tt)
+  by_snoc n (x ∷ xs) e by own = (by.0, by_snoc n xs e by.1 own)
+
+  -- a legal history, and what follows it
+  pub legal-append : (legal : ℕ → S → C → R → S → Type 0) (s : S) (xs ys : List (Entry S C R)) → IsLegal legal s xs → IsLegal legal (last_of s xs) ys → IsLegal legal s (xs ++ ys)
+  legal-append legal s [] ys h g = g
+  legal-append legal s (x ∷ xs) ys h g = (h.0, legal-append legal x.after xs ys h.1 g)
+
+  pub last-append : (s : S) (xs ys : List (Entry S C R)) → last_of s (xs ++ ys) ≡ last_of (last_of s xs) ys
+  last-append s [] ys = refl
+  last-append s (x ∷ xs) ys = last-append x.after xs ys
 
   pub legal_snoc : (legal : ℕ → S → C → R → S → Type 0) (s : S) (xs : List (Entry S C R)) (n : ℕ) (c : C) (r : R) (a : S) → IsLegal legal s xs → legal n (last_of s xs) c r a → IsLegal legal s (xs ++ entry n c r a ∷ [])
   legal_snoc legal s [] n c r a h l = (l, tt)

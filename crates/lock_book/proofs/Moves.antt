@@ -1,8 +1,7 @@
 -- The moves of the lock and the commit keep the rule.
-use Rattle.std.proofs.Common.{◌≡◌, ◌≢◌, ℕ, zero, suc, ◌+◌, ◌*◌, ◌<◌, eqb, List, [], ◌∷◌, ◌++◌, length, set, sym, refl, ap, ◌∙◌, subst, arith, length-set, get_or-set_other, get_or-set_same}
+use Rattle.std.proofs.Common.{◌≡◌, ◌≢◌, ℕ, zero, suc, ◌+◌, ◌*◌, ◌<◌, eqb, List, [], ◌∷◌, ◌++◌, length, map, set, sym, refl, ap, ◌∙◌, subst, arith, length-set, get_or-set_other, get_or-set_same}
 use Rattle.std.specs.Prelude.{slice_index}
 use mathlib.Core.Option.{Option, none, some, some-injective}
-use Rattle.std.specs.Prelude.{Option as Maybe, Some, None}
 use prog.Atomic.{either}
 use lib.ListN.{get_elem?}
 use lib.Seq.{set-get_or}
@@ -11,9 +10,9 @@ use Rattle.atomic_table.proofs.Lists.{set_again, set_here, set_else, exchanged}
 use Rattle.lock_book.specs.declared.view.Entry.{Entry}
 use Rattle.lock_book.specs.declared.view.Stage.TheVariants.{Idle, Holding}
 use Rattle.lock_book.specs.declared.view.View.{View}
-use Rattle.lock_book.specs.History.{entry, last_of, calls_by, calls_at, StartsWith, IsLegal, row_at, put_row}
-use Rattle.lock_book.specs.Ruled.{lock_at, named, total, holders, mine_at, seen_at, told_at, at_stage, seeing, with_entry, IsFree, StageOk, ValueOk, Ruled, Taken, tried, tried_once, missing, given_back, served}
-use Rattle.lock_book.proofs.Histories.{starts_refl, starts_snoc, starts_trans, calls_by_mine, calls_by_other, calls_at_here, calls_at_other, legal_snoc, last_snoc, row_here, row_else, at_place}
+use Rattle.lock_book.specs.History.{last_of, calls_by, calls_at, AreBy, StartsWith, IsLegal, row_at, put_row}
+use Rattle.lock_book.specs.Ruled.{lock_at, named, total, holders, mine_at, seen_at, told_at, at_stage, seeing, with_entries, Fits, IsFree, StageOk, ValueOk, Ruled, Taken, tried, tried_once, missing, given_back, served}
+use Rattle.lock_book.proofs.Histories.{starts_refl, starts_snoc, starts_trans, calls_by_all, calls_by_others, calls_at_all, calls_at_others, legal-append, row_here, row_else, at_place}
 use Rattle.lock_book.proofs.Totals.{total_set, total_at, upd, upd_here, upd_else, there, within}
 use Rattle.lock_book.proofs.Stages.{one_holder, no_holder, one_named, no_named, few_holders, none_named, one_seat, stage_else}
 use Rattle.lock_book.proofs.Changes.{Change, changed, same_value, values_by}
@@ -21,10 +20,6 @@ use Rattle.lock_book.proofs.Changes.{Change, changed, same_value, values_by}
 abbrev pub held_slot : {X : Type 0} → X → List (ℕ × X) → X
 held_slot x [] = x
 held_slot x (y ∷ ys) = y.1
-
-abbrev made_or : {A : Type 0} → A → Maybe A → A
-made_or a None = a
-made_or a (Some b) = b
 
 -- of two changes at one place the second is left
 set_twice : {A : Type 0} (xs : List A) (i : ℕ) (a b : A) → set (set xs i a) i b ≡ set xs i b
@@ -204,41 +199,41 @@ module _ {X N S C R : Type 0} (slot_name : X → N) (slot_state : X → S) (lega
       → Allows Rule slots id me word (λ n. either (eqb n 0) new n) (tried_once slot_name slot_state legal (step slots word 0 new none) me)
   tries_once slots id me i new word here its free low = subst (λ (w : ℕ). Allows Rule slots id me w (λ n. either (eqb n 0) new n) (tried_once slot_name slot_state legal (step slots w 0 new none) me)) (sym here) (tries_once_at slots id me i new its free low)
 
-  -- the state in which the seat v, which has the value, has added its call to the history, and nothing else has changed
-  commits : (s : State X (View N S C R)) → Rule s → (id : ℕ) (v : View N S C R) → get_elem? s.views id ≡ some v → (i : ℕ) (ask : C) (reply : R) (after : S) → v.stage ≡ Holding i
-      → ((o : N × S) → get_elem? v.opens i ≡ some o → legal o.0 v.from (last_of o.1 (seen_at v i)) ask reply after)
-      → Rule record { words = s.words; homes = s.homes; views = set s.views id (with_entry v i (entry v.from ask reply after)) }
-  commits s r id v at i ask reply after holds lawful =
+  -- the state in which the seat v, which has the value, has added its calls to the history, and nothing else has changed
+  commits : (s : State X (View N S C R)) → Rule s → (id : ℕ) (v : View N S C R) → get_elem? s.views id ≡ some v → (i : ℕ) (es : List (Entry S C R)) → v.stage ≡ Holding i → AreBy v.from es
+      → ((o : N × S) → get_elem? v.opens i ≡ some o → IsLegal (legal o.0) (last_of o.1 (seen_at v i)) es)
+      → Rule record { words = s.words; homes = s.homes; views = set s.views id (with_entries v i es) }
+  commits s r id v at i es holds by lawful =
       let k = r.each_seat id v at in
       let ok : StageOk opens callers r.logs v (Holding i) = subst (StageOk opens callers r.logs v) holds k.staged in
       let one = ok.0 in
       let low = ok.1 in
       let old : List (Entry S C R) = r.logs i in
-      let e : Entry S C R = entry v.from ask reply after in
-      let log : List (Entry S C R) = old ++ e ∷ [] in
+      let log : List (Entry S C R) = old ++ es in
       let now : ℕ → List (Entry S C R) = upd r.logs i log in
       let here : now i ≡ log = upd_here r.logs i log in
-      let w : View N S C R = with_entry v i e in
+      let w : View N S C R = with_entries v i es in
       let bound = k.below (omega arith) in
       let some_owner : 0 < length v.owns = omega arith in
-      let seen : seen_at v i ++ e ∷ [] ≡ log = ap (λ (m : List (Entry S C R)). m ++ e ∷ []) ok.2 in
+      let seen : seen_at v i ++ es ≡ log = ap (λ (m : List (Entry S C R)). m ++ es) ok.2 in
       let first : v.from + 0 ≡ v.from = omega arith in
       let row : List (ℕ × Entry S C R) = row_at v.owns 0 in
-      let mine_here : calls_at i (row ++ (i, e) ∷ []) ≡ calls_by (v.from + 0) log =
-      calls_at_here i row e ∙ (ap (λ (m : List (Entry S C R)). m ++ e ∷ []) (k.mine 0 i some_owner ∙ ap (λ (y : ℕ). calls_by y old) first)
-      ∙ (sym (calls_by_mine v.from old ask reply after) ∙ ap (λ (y : ℕ). calls_by y log) (sym first))) in
-      let mine_now : (j : ℕ) → calls_at j (row ++ (i, e) ∷ []) ≡ calls_by (v.from + 0) (now j) = at_place (λ (j : ℕ). calls_at j (row ++ (i, e) ∷ []) ≡ calls_by (v.from + 0) (now j)) i
+      let more : List (ℕ × Entry S C R) = map (λ (e : Entry S C R). (i, e)) es in
+      let mine_here : calls_at i (row ++ more) ≡ calls_by (v.from + 0) log =
+      calls_at_all i row es ∙ (ap (λ (m : List (Entry S C R)). m ++ es) (k.mine 0 i some_owner ∙ ap (λ (y : ℕ). calls_by y old) first)
+      ∙ (sym (calls_by_all v.from old es by) ∙ ap (λ (y : ℕ). calls_by y log) (sym first))) in
+      let mine_now : (j : ℕ) → calls_at j (row ++ more) ≡ calls_by (v.from + 0) (now j) = at_place (λ (j : ℕ). calls_at j (row ++ more) ≡ calls_by (v.from + 0) (now j)) i
       (mine_here ∙ ap (calls_by (v.from + 0)) (sym here))
-      (λ j ne. calls_at_other j i row e (λ z. ne (sym z)) ∙ (k.mine 0 j some_owner ∙ ap (calls_by (v.from + 0)) (sym (upd_else r.logs i log j ne)))) in
-      let seen_now : (j : ℕ) → calls_at j (row ++ (i, e) ∷ []) ≡ calls_by (v.from + 0) (row_at (put_row v.seen i (seen_at v i ++ e ∷ [])) j) =
-      sees v i (seen_at v i ++ e ∷ []) (λ j m. calls_at j (row ++ (i, e) ∷ []) ≡ calls_by (v.from + 0) m)
+      (λ j ne. calls_at_others j i row es (λ z. ne (sym z)) ∙ (k.mine 0 j some_owner ∙ ap (calls_by (v.from + 0)) (sym (upd_else r.logs i log j ne)))) in
+      let seen_now : (j : ℕ) → calls_at j (row ++ more) ≡ calls_by (v.from + 0) (row_at (put_row v.seen i (seen_at v i ++ es)) j) =
+      sees v i (seen_at v i ++ es) (λ j m. calls_at j (row ++ more) ≡ calls_by (v.from + 0) m)
       (mine_here ∙ ap (calls_by (v.from + 0)) (sym seen))
-      (λ j ne. calls_at_other j i row e (λ z. ne (sym z)) ∙ k.mine_seen 0 j some_owner) in
+      (λ j ne. calls_at_others j i row es (λ z. ne (sym z)) ∙ k.mine_seen 0 j some_owner) in
       let grows : (j : ℕ) → StartsWith (now j) (r.logs j) = at_place (λ (j : ℕ). StartsWith (now j) (r.logs j)) i
-      (subst (λ (m : List (Entry S C R)). StartsWith m old) (sym here) (starts_snoc old old (e ∷ []) (starts_refl old)))
+      (subst (λ (m : List (Entry S C R)). StartsWith m old) (sym here) (starts_snoc old old es (starts_refl old)))
       (λ j ne. subst (λ (m : List (Entry S C R)). StartsWith m (r.logs j)) (sym (upd_else r.logs i log j ne)) (starts_refl (r.logs j))) in
       let by_others : (m : ℕ) → v.from ≢ m → (j : ℕ) → calls_by m (now j) ≡ calls_by m (r.logs j) = λ m ne. at_place (λ (j : ℕ). calls_by m (now j) ≡ calls_by m (r.logs j)) i
-      (ap (calls_by m) here ∙ calls_by_other m v.from old ask reply after ne)
+      (ap (calls_by m) here ∙ calls_by_others m v.from old es by ne)
       (λ j other. ap (calls_by m) (upd_else r.logs i log j other)) in
       let c : Change slot_name slot_state legal opens callers s r id v w now s.words s.homes = record {
         at = at;
@@ -258,24 +253,24 @@ module _ {X N S C R : Type 0} (slot_name : X → N) (slot_state : X → S) (lega
             let tn = total_set (λ (u : View N S C R). named i u.from u.stage) s.views id v w at in
             let nw : named i w.from w.stage ≡ named i v.from v.stage = refl in
             let open_here : get_elem? v.opens i ≡ some o = ap (λ (z : List (N × S)). get_elem? z i) (k.opened some_owner) ∙ eo in
-            let rule_here : legal o.0 v.from (last_of o.1 old) ask reply after = subst (λ (m : List (Entry S C R)). legal o.0 v.from (last_of o.1 m) ask reply after) ok.2 (lawful o open_here) in
+            let rule_here : IsLegal (legal o.0) (last_of o.1 old) es = subst (λ (m : List (Entry S C R)). IsLegal (legal o.0) (last_of o.1 m) es) ok.2 (lawful o open_here) in
             subst (ValueOk slot_name slot_state legal s.words s.homes (set s.views id w) i o) (sym here) record {
               locked = omega arith;
               alone = omega arith;
-              lawful = legal_snoc (legal o.0) o.1 old v.from ask reply after was.lawful rule_here;
+              lawful = legal-append (legal o.0) o.1 old es was.lawful rule_here;
               at_home = λ z. absurd (omega arith);
             });
         knows = record {
           opened = λ _. k.opened some_owner;
           counted = λ _. k.counted some_owner;
           below = λ _. omega arith;
-          seen = λ j. sees v i (seen_at v i ++ e ∷ []) (λ j m. StartsWith (now j) m)
+          seen = λ j. sees v i (seen_at v i ++ es) (λ j m. StartsWith (now j) m)
               (subst (λ (m : List (Entry S C R)). StartsWith (now i) m) (here ∙ sym seen) (starts_refl (now i)))
               (λ j ne. starts_trans (now j) (r.logs j) (seen_at v j) (grows j) (k.seen j)) j;
           told = λ j. starts_trans (now j) (r.logs j) (told_at v j) (grows j) (k.told j);
-          mine = λ m j lt. let z : 0 ≡ m = omega arith in subst (λ (y : ℕ). calls_at j (row_at ((row ++ (i, e) ∷ []) ∷ []) y) ≡ calls_by (v.from + y) (now j)) z (mine_now j);
-          mine_seen = λ m j lt. let z : 0 ≡ m = omega arith in subst (λ (y : ℕ). calls_at j (row_at ((row ++ (i, e) ∷ []) ∷ []) y) ≡ calls_by (v.from + y) (row_at (put_row v.seen i (seen_at v i ++ e ∷ [])) j)) z (seen_now j);
-          staged = subst (StageOk opens callers now w) (sym holds) (refl, low, row_here v.seen i (seen_at v i ++ e ∷ []) ∙ (seen ∙ sym here));
+          mine = λ m j lt. let z : 0 ≡ m = omega arith in subst (λ (y : ℕ). calls_at j (row_at ((row ++ more) ∷ []) y) ≡ calls_by (v.from + y) (now j)) z (mine_now j);
+          mine_seen = λ m j lt. let z : 0 ≡ m = omega arith in subst (λ (y : ℕ). calls_at j (row_at ((row ++ more) ∷ []) y) ≡ calls_by (v.from + y) (row_at (put_row v.seen i (seen_at v i ++ es)) j)) z (seen_now j);
+          staged = subst (StageOk opens callers now w) (sym holds) (refl, low, row_here v.seen i (seen_at v i ++ es) ∙ (seen ∙ sym here));
         };
         grows = grows;
         bounded = λ j m hi. by_others m (λ z. omega arith) j ∙ r.bounded j m hi;
@@ -327,34 +322,30 @@ module _ {X N S C R : Type 0} (slot_name : X → N) (slot_state : X → S) (lega
         others_stage = λ other u ne eu ok. ok;
       } in changed slot_name slot_state legal opens callers s r id v w r.logs words homes c
 
-  -- the seat that has the value adds its call to the history and gives the value back
-  gives_back_at : (made : X → Maybe (C × R)) (slots id : ℕ) (me : Me X (View N S C R)) (i : ℕ) (x : X) (ask : C) (reply : R) → me.0.stage ≡ Holding i → me.1 ≡ (i, x) ∷ [] → made x ≡ Some (ask, reply) → i < slots
-      → ((o : N × S) → get_elem? me.0.opens i ≡ some o → (slot_name x ≡ o.0) × legal o.0 me.0.from (last_of o.1 (seen_at me.0 i)) ask reply (slot_state x))
-      → Allows Rule slots id me (lock_at i) (λ _. 0) (λ _. given_back slot_name slot_state legal made (step slots (lock_at i) 0 0 none) me 0)
-  gives_back_at made slots id me i x ask reply holds has told inside fits s r len at _ =
+  -- the seat that has the value adds its calls to the history and gives the value back
+  gives_back_at : (made : X → List (Entry S C R)) (slots id : ℕ) (me : Me X (View N S C R)) (i : ℕ) (x : X) → me.0.stage ≡ Holding i → me.1 ≡ (i, x) ∷ [] → i < slots → Fits slot_name slot_state legal made me.0 i x
+      → Allows Rule slots id me (lock_at i) (λ _. 0) (λ _. given_back made (step slots (lock_at i) 0 0 none) me 0)
+  gives_back_at made slots id me i x holds has inside fits s r len at _ =
       let v = me.0 in
-      let e : Entry S C R = entry v.from ask reply (slot_state x) in
-      let w : View N S C R = with_entry v i e in
-      let log : List (Entry S C R) = seen_at v i ++ e ∷ [] in
+      let es : List (Entry S C R) = made x in
+      let w : View N S C R = with_entries v i es in
       let now_at = set_here s.views id w (within s.views id v at) in
-      let last : (o : N × S) → last_of o.1 (seen_at w i) ≡ slot_state x = λ o. ap (last_of o.1) (row_here v.seen i log) ∙ last_snoc o.1 (seen_at v i) e in
-      let now = commits s r id v at i ask reply (slot_state x) holds (λ o eo. (fits o eo).1) in
-      let done = frees record { words = s.words; homes = s.homes; views = set s.views id w } now id w now_at i x holds (omega (arith, len, inside)) (λ o eo. ((fits o eo).0, sym (last o))) in
-      let there : Rule record { words = set s.words (lock_at i) 0; homes = set s.homes i (some x); views = set s.views id (served v i e) } = subst (λ (z : List (View N S C R)). Rule record { words = set s.words (lock_at i) 0; homes = set s.homes i (some x); views = z }) (set_twice s.views id w (served v i e)) done in (
-        served v i e,
+      let last : (o : N × S) → get_elem? v.opens i ≡ some o → slot_state x ≡ last_of o.1 (seen_at w i) = λ o eo. (fits.each o eo).2 ∙ sym (ap (last_of o.1) (row_here v.seen i (seen_at v i ++ es))) in
+      let now = commits s r id v at i es holds fits.by (λ o eo. (fits.each o eo).1) in
+      let done = frees record { words = s.words; homes = s.homes; views = set s.views id w } now id w now_at i x holds (omega (arith, len, inside)) (λ o eo. ((fits.each o eo).0, last o eo)) in
+      let there : Rule record { words = set s.words (lock_at i) 0; homes = set s.homes i (some x); views = set s.views id (served v i es) } = subst (λ (z : List (View N S C R)). Rule record { words = set s.words (lock_at i) 0; homes = set s.homes i (some x); views = z }) (set_twice s.views id w (served v i es)) done in (
+        served v i es,
         gives,
         tt,
-        subst (λ (z : List (Option X)). Rule record { words = set s.words (lock_at i) 0; homes = z; views = set s.views id (served v i e) }) (sym (ap (put_back s.homes) has)) there,
-        λ j y ask' reply' at_j has' told'.
+        subst (λ (z : List (Option X)). Rule record { words = set s.words (lock_at i) 0; homes = z; views = set s.views id (served v i es) }) (sym (ap (put_back s.homes) has)) there,
+        λ j y at_j has'.
             let slot : x ≡ y = ap (held_slot x) (sym has ∙ has') in
-            let pair : (ask, reply) ≡ (ask', reply') = ap (made_or (ask, reply)) (sym told ∙ (ap made slot ∙ told')) in
             let same : lock_at i ≡ lock_at j = at_j in
             let place : i ≡ j = omega arith in
-            (refl, λ n. served v (place n) (entry v.from (pair n).0 (pair n).1 (slot_state (slot n)))),
+            (refl, λ n. served v (place n) (made (slot n))),
       )
 
-  pub gives_back : (made : X → Maybe (C × R)) (slots id : ℕ) (me : Me X (View N S C R)) (i : ℕ) (x : X) (ask : C) (reply : R) (word : ℕ) → word ≡ lock_at i → me.0.stage ≡ Holding i → me.1 ≡ (i, x) ∷ [] → made x ≡ Some (ask, reply) → i < slots
-      → ((o : N × S) → get_elem? me.0.opens i ≡ some o → (slot_name x ≡ o.0) × legal o.0 me.0.from (last_of o.1 (seen_at me.0 i)) ask reply (slot_state x))
-      → Allows Rule slots id me word (λ _. 0) (λ _. given_back slot_name slot_state legal made (step slots word 0 0 none) me 0)
-  gives_back made slots id me i x ask reply word here holds has told inside fits =
-      subst (λ (w : ℕ). Allows Rule slots id me w (λ _. 0) (λ _. given_back slot_name slot_state legal made (step slots w 0 0 none) me 0)) (sym here) (gives_back_at made slots id me i x ask reply holds has told inside fits)
+  pub gives_back : (made : X → List (Entry S C R)) (slots id : ℕ) (me : Me X (View N S C R)) (i : ℕ) (x : X) (word : ℕ) → word ≡ lock_at i → me.0.stage ≡ Holding i → me.1 ≡ (i, x) ∷ [] → i < slots → Fits slot_name slot_state legal made me.0 i x
+      → Allows Rule slots id me word (λ _. 0) (λ _. given_back made (step slots word 0 0 none) me 0)
+  gives_back made slots id me i x word here holds has inside fits =
+      subst (λ (w : ℕ). Allows Rule slots id me w (λ _. 0) (λ _. given_back made (step slots w 0 0 none) me 0)) (sym here) (gives_back_at made slots id me i x holds has inside fits)

@@ -1,19 +1,22 @@
 -- Laws for the callers of a shelf: of legal histories, of their states, of the calls of each caller and of those of
 -- all, and of what lists have where.
-use Rattle.std.proofs.Common.{◌≡◌, ℕ, zero, suc, ◌+◌, ◌<◌, ◌≤◌, eqb, Bool, true, false, cond, ◌≢◌, List, [], ◌∷◌, ◌++◌, length, map, sym, refl, ap, ◌∙◌, subst, arith, length-append, eq-eqb, ne_eqb}
+use Rattle.std.proofs.Common.{◌≡◌, ℕ, zero, suc, ◌+◌, ◌<◌, ◌≤◌, eqb, Bool, true, false, cond, ◌≢◌, List, [], ◌∷◌, ◌++◌, length, map, sym, refl, ap, ◌∙◌, subst, arith, append_assoc, append-nil, length-append, eq-eqb, ne_eqb}
 use mathlib.Core.Logic.{dite}
 use native.Mathlib.Decide.{ℕ_discrete, dec_le}
 use mathlib.Core.Option.{some, some-injective, some-ne-none}
 use lib.ListN.{get_elem?}
 use Rattle.lock_book.specs.declared.view.Entry.{Entry}
-use Rattle.lock_book.specs.History.{entry, last_of, calls_by, StartsWith, IsLegal}
+use Rattle.lock_book.specs.declared.view.View.{View}
+use Rattle.lock_book.specs.History.{entry, last_of, calls_by, AreBy, StartsWith, IsLegal}
 use Rattle.lock_book.specs.declared.kept.Kept.{Ghosts}
+use Rattle.lock_book.specs.declared.several.Turn.{Turn}
 use Rattle.lock_book.specs.declared.shelf.Pass.{Pass}
 use Rattle.lock_book.specs.declared.shelf.Shelf.{Shelf}
 use Rattle.lock_book.specs.Folds.{IsCommutativeMonoid, folded, folded_below}
-use Rattle.lock_book.specs.Told.{Histories, IsPass, Adds, MakesAll}
-use Rattle.lock_book.specs.Shown.{Belongs, Called, callers_of, count_of, mine_of, number_of, opens_of, seen_of}
-use Rattle.lock_book.proofs.Histories.{last_snoc}
+use Rattle.lock_book.specs.Ruled.{view_of}
+use Rattle.lock_book.specs.Told.{Histories, IsPass, Adds, AddsAll, MakesAll}
+use Rattle.lock_book.specs.Shown.{Belongs, Called, IsTurn, begun_in, calls_carried, calls_in, callers_of, count_of, mine_of, number_of, opens_of, place_in, seen_of}
+use Rattle.lock_book.proofs.Histories.{last_snoc, starts_refl, starts_trans}
 use Rattle.lock_book.proofs.Totals.{there}
 
 -- numbers may be added up in any order
@@ -23,8 +26,7 @@ sums = record { unit_first = λ a. omega arith; associative = λ a b c. omega ar
 module _ {S C R : Type 0} where
   -- a legal history, and what follows it
   pub legal-append : (legal : ℕ → S → C → R → S → Type 0) (s : S) (xs ys : List (Entry S C R)) → IsLegal legal s xs → IsLegal legal (last_of s xs) ys → IsLegal legal s (xs ++ ys)
-  legal-append legal s [] ys h g = g
-  legal-append legal s (x ∷ xs) ys h g = (h.0, legal-append legal x.after xs ys h.1 g)
+  legal-append = Rattle.lock_book.proofs.Histories.legal-append
 
   pub legal_front : (legal : ℕ → S → C → R → S → Type 0) (s : S) (xs ys : List (Entry S C R)) → IsLegal legal s (xs ++ ys) → IsLegal legal s xs
   legal_front legal s [] ys h = tt
@@ -35,8 +37,7 @@ module _ {S C R : Type 0} where
   legal_back legal s (x ∷ xs) ys h = legal_back legal x.after xs ys h.1
 
   pub last-append : (s : S) (xs ys : List (Entry S C R)) → last_of s (xs ++ ys) ≡ last_of (last_of s xs) ys
-  last-append s [] ys = refl
-  last-append s (x ∷ xs) ys = last-append x.after xs ys
+  last-append = Rattle.lock_book.proofs.Histories.last-append
 
   -- what each call keeps is true of the last state
   pub kept_last : (legal : ℕ → S → C → R → S → Type 0) (P : S → Type 0) → ((n : ℕ) (s : S) (c : C) (r : R) (t : S) → P s → legal n s c r t → P t) → (s : S) (xs : List (Entry S C R)) → P s → IsLegal legal s xs → P (last_of s xs)
@@ -162,6 +163,20 @@ module _ {T E I O N S C R : Type 0} {g : Ghosts T E I O N S C R} where
       (λ x. lone_step g.legal (opens_of s) (seen_of p) (mine_of p) (seen_of q) (mine_of q) at c r P Q x o eo) in
       (step (number_of p) first a, ap (last_of o.1) a.ends ∙ last_snoc o.1 a.before _)
 
+has_view : {N S C R : Type 0} (vs : List (View N S C R)) (opens : List (N × S)) → (view_of vs).opens ≡ opens → 0 < length opens → length vs ≤ 1 → length vs ≡ 1
+has_view [] opens e low few = let l : 0 ≡ length opens = ap length e in absurd (omega arith)
+has_view (v ∷ vs) opens e low few = omega arith
+
+-- a pass that belongs to a shelf has its seat
+pub is_here : {T E I O N S C R : Type 0} {g : Ghosts T E I O N S C R} (s : Shelf T E I O N S C R) (p : Pass T E I O N S C R g) → Belongs s p → length p.badge.views ≡ 1
+is_here s p b = let sized = s.sized in has_view p.badge.views (opens_of s) b.opens (omega arith) p.one
+
+-- what a turn began with and its calls so far are one legal history
+pub turn_legal : {T E I O N S C R : Type 0} {g : Ghosts T E I O N S C R} (s : Shelf T E I O N S C R) (p : Pass T E I O N S C R g) (t : Turn T E I O N S C R g) → IsTurn s p t → (o : N × S) → get_elem? (opens_of s) (place_in t) ≡ some o → IsLegal (g.legal o.0) o.1 (begun_in t ++ calls_in t)
+turn_legal {N = N} {S = S} {C = C} {R = R} {g = g} s p t h o eo =
+    let f = h.has.2.each o (ap (λ (l : List (N × S)). get_elem? l t.at) h.opens ∙ eo) in
+    legal-append (g.legal o.0) o.1 (begun_in t) (calls_in t) (h.stands.lawful t.at o eo) (subst (IsLegal (g.legal o.0) (last_of o.1 (begun_in t))) (sym (ap calls_carried h.has.1)) f.1)
+
 -- a call at a place of a shelf is one call at the value there
 pub one_call : {N S C R : Type 0} (legal : N → ℕ → S → C → R → S → Type 0) (opens : List (N × S)) (n : ℕ) (seen mine seen' mine' : Histories S C R) (at : ℕ) (c : C) (r : R) (o : N × S) → get_elem? opens at ≡ some o
     → Adds legal opens n seen mine seen' mine' at c r → MakesAll (legal o.0) o.1 n (seen at) (mine at) (seen' at) (mine' at) ((c, r) ∷ [])
@@ -175,6 +190,33 @@ module _ {S C R : Type 0} (legal : ℕ → S → C → R → S → Type 0) (open
   pub then_calls : (s m s' m' s'' m'' : List (Entry S C R)) (es fs : List (C × R)) → MakesAll legal opening n s m s' m' es → MakesAll legal opening n s' m' s'' m'' fs → MakesAll legal opening n s m s'' m'' (es ++ fs)
   then_calls s m s' m' s'' m'' [] fs x y = same_start s m s' m' s'' m'' fs x.0 x.1 y
   then_calls s m s' m' s'' m'' (e ∷ es) fs x y = (x.0, x.1, x.2, then_calls x.0 x.1 s' m' s'' m'' es fs x.3 y)
+
+-- the calls of one turn at a place, where there are some, are calls at the value there, one after another
+module _ {N S C R : Type 0} (legal : N → ℕ → S → C → R → S → Type 0) (opens : List (N × S)) (n : ℕ) where
+  -- the call and the reply of an entry
+  abbrev pub told_by : Entry S C R → C × R
+  told_by e = (e.call, e.reply)
+
+  abbrev as_own : Entry S C R → Entry S C R
+  as_own e = entry n e.call e.reply e.after
+
+  runs : (o : N × S) (s m s' m' : List (Entry S C R)) (es : List (Entry S C R)) → IsLegal (legal o.0) (last_of o.1 s) es → AreBy n es → s' ≡ s ++ es → m' ≡ m ++ es → MakesAll (legal o.0) o.1 n s m s' m' (map told_by es)
+  runs o s m s' m' [] lawful by hs hm = (hs ∙ append-nil s, hm ∙ append-nil m)
+  runs o s m s' m' (x ∷ xs) lawful by hs hm =
+      let is : x ≡ as_own x = λ i. entry (by.0 i) x.call x.reply x.after in
+      let front : (l : List (Entry S C R)) → l ++ x ∷ xs ≡ (l ++ as_own x ∷ []) ++ xs = λ l. ap (λ (e : Entry S C R). l ++ e ∷ xs) is ∙ sym (append_assoc l (as_own x ∷ []) xs) in (
+        s ++ as_own x ∷ [],
+        m ++ as_own x ∷ [],
+        record { before = s; after = x.after; ends = refl; begins = starts_refl s; step = subst (λ (k : ℕ). legal o.0 k (last_of o.1 s) x.call x.reply x.after) by.0 lawful.0; own = refl },
+        runs o (s ++ as_own x ∷ []) (m ++ as_own x ∷ []) s' m' xs (subst (λ (z : S). IsLegal (legal o.0) z xs) (sym (last_snoc o.1 s (as_own x))) lawful.1) by.1 (hs ∙ front s) (hm ∙ front m),
+      )
+
+  pub all_calls : (seen mine seen' mine' : Histories S C R) (at : ℕ) (e : Entry S C R) (es : List (Entry S C R)) (o : N × S) → get_elem? opens at ≡ some o → AddsAll legal opens n seen mine seen' mine' at (e ∷ es)
+      → MakesAll (legal o.0) o.1 n (seen at) (mine at) (seen' at) (mine' at) (map told_by (e ∷ es))
+  all_calls seen mine seen' mine' at e es o there a =
+      let r = runs o a.before (mine at) (seen' at) (mine' at) (e ∷ es) (a.steps o there) a.by a.ends a.mine_grows in
+      let first = r.2 in
+      (r.0, r.1, record { before = first.before; after = first.after; ends = first.ends; begins = starts_trans first.before a.before (seen at) first.begins a.begins; step = first.step; own = first.own }, r.3)
 
 module _ {A : Type 0} where
   -- what stands where among what f makes of the items, and what it was made of

@@ -1,5 +1,5 @@
 -- Histories: lists of entries, and what a caller has seen of them.
-use Rattle.std.specs.Prelude.{◌≡◌, ℕ, zero, suc, ◌==◌, ltb, if◌then◌else◌, List, [], ◌∷◌, ◌++◌, length, Option, Some, None, unwrap_or}
+use Rattle.std.specs.Prelude.{◌≡◌, ℕ, zero, suc, ◌==◌, ltb, if◌then◌else◌, List, [], ◌∷◌, ◌++◌, length, Option, Some, None}
 use Rattle.lock_book.specs.declared.noted.Noted.{Noted}
 use Rattle.lock_book.specs.declared.view.Entry.{Entry}
 
@@ -17,6 +17,11 @@ module _ {S C R : Type 0} where
   abbrev pub calls_by : ℕ → List (Entry S C R) → List (Entry S C R)
   calls_by n [] = []
   calls_by n (e ∷ es) = if e.by == n then (e ∷ calls_by n es) else calls_by n es
+
+  -- the entries are those of one caller
+  abbrev pub AreBy : ℕ → List (Entry S C R) → Type 0
+  AreBy n [] = Unit {0}
+  AreBy n (e ∷ es) = (e.by ≡ n) × AreBy n es
 
   -- the calls at one value
   abbrev pub calls_at : ℕ → List (ℕ × Entry S C R) → List (Entry S C R)
@@ -65,7 +70,7 @@ longer_rows [] ys = ys
 longer_rows (x ∷ xs) [] = x ∷ xs
 longer_rows (x ∷ xs) (y ∷ ys) = longer x y ∷ longer_rows xs ys
 
--- the call and the reply of a slot's last turn
-abbrev pub made_of : {I O C R : Type 0} → (I → C) → (I → O → Option C) → (O → R) → Option (Noted I × Noted O) → Option (C × R)
-made_of call chosen reply None = None
-made_of call chosen reply (Some p) = Some (unwrap_or (chosen p.0.value p.1.value) (call p.0.value), reply p.1.value)
+-- the calls of a slot's turn so far, in order
+abbrev pub made_of : {S C R : Type 0} → Option (Noted (List (Entry S C R))) → List (Entry S C R)
+made_of None = []
+made_of (Some entries) = entries.value

@@ -1,6 +1,6 @@
 -- The rule of a shelf's table, and what is learnt by each step.
 -- X is what a slot holds, N a name, S a state, C a call and R a reply.
-use Rattle.std.specs.Prelude.{◌≡◌, ◌≢◌, ℕ, ◌+◌, ◌*◌, ◌<◌, ◌≤◌, ◌==◌, if◌then◌else◌, List, [], ◌∷◌, ◌++◌, length, slice_index, replicate, Option, Some}
+use Rattle.std.specs.Prelude.{◌≡◌, ◌≢◌, ℕ, ◌+◌, ◌*◌, ◌<◌, ◌≤◌, ◌==◌, if◌then◌else◌, List, [], ◌∷◌, ◌++◌, length, map, slice_index, replicate}
 use mathlib.Core.Option.{some}
 use lib.ListN.{get_elem?}
 use Rattle.atomic_table.specs.Table.{State, Me, Step, rest}
@@ -8,7 +8,7 @@ use Rattle.lock_book.specs.declared.view.Entry.{Entry}
 use Rattle.lock_book.specs.declared.view.Stage.{Stage}
 use Rattle.lock_book.specs.declared.view.Stage.TheVariants.{Idle, Holding}
 use Rattle.lock_book.specs.declared.view.View.{View}
-use Rattle.lock_book.specs.History.{entry, last_of, calls_by, calls_at, StartsWith, IsLegal, row_at, put_row, longer_rows, first_row, other_rows}
+use Rattle.lock_book.specs.History.{last_of, calls_by, AreBy, calls_at, StartsWith, IsLegal, row_at, put_row, longer_rows, first_row, other_rows}
 
 -- f of each view, added up
 abbrev pub total : {V : Type 0} → (V → ℕ) → List V → ℕ
@@ -69,13 +69,13 @@ module _ {N S C R : Type 0} where
   abbrev pub seeing : (View N S C R) → ℕ → List (Entry S C R) → Stage → (View N S C R)
   seeing v i log g = record v { seen = put_row v.seen i log; stage = g }
 
-  -- the one caller of the seat made a call at the value i
-  abbrev pub with_entry : (View N S C R) → ℕ → Entry S C R → (View N S C R)
-  with_entry v i e = record v { owns = (row_at v.owns 0 ++ (i, e) ∷ []) ∷ []; seen = put_row v.seen i (seen_at v i ++ e ∷ []) }
+  -- the one caller of the seat made these calls at the value i
+  abbrev pub with_entries : (View N S C R) → ℕ → List (Entry S C R) → (View N S C R)
+  with_entries v i es = record v { owns = (row_at v.owns 0 ++ map (λ e. (i, e)) es) ∷ []; seen = put_row v.seen i (seen_at v i ++ es) }
 
-  -- the one caller of the seat made a call at the value i and gave the value back
-  abbrev pub served : (View N S C R) → ℕ → Entry S C R → (View N S C R)
-  served v i e = at_stage (with_entry v i e) Idle
+  -- the one caller of the seat made these calls at the value i and gave the value back
+  abbrev pub served : (View N S C R) → ℕ → List (Entry S C R) → (View N S C R)
+  served v i es = at_stage (with_entries v i es) Idle
 
   -- the seat tried once more, and found a value taken
   abbrev pub missing : (View N S C R) → (View N S C R)
@@ -162,6 +162,12 @@ module _ {N S C R : Type 0} where
       pub mine : mine_at m.0 0 i ≡ calls_by m.0.from log
       pub bounded : (n : ℕ) → m.0.callers ≤ n → calls_by n log ≡ []
 
+    -- The slot x, with the calls `made x` of the seat's one caller, may go back to the place i after what the seat has
+    -- seen: it has the value's name, the calls are legal there, one after another, and the value has the last state
+    pub record Fits (made : X → List (Entry S C R)) (v : View N S C R) (i : ℕ) (x : X) : Type 0 where
+      pub by : AreBy v.from (made x)
+      pub each : (o : N × S) → get_elem? v.opens i ≡ some o → (slot_name x ≡ o.0) × IsLegal (legal o.0) (last_of o.1 (seen_at v i)) (made x) × (slot_state x ≡ last_of o.1 (seen_at v i ++ made x))
+
     -- a try to take the value: if the word found is 0 the seat has it, and else nothing changed
     abbrev pub tried : Step X → Me X (View N S C R) → ℕ → Me X (View N S C R) → Type 0
     tried st m r m' = (i : ℕ) → st.word ≡ lock_at i → (r ≡ 0 → Taken m i m') × (r ≢ 0 → m' ≡ m)
@@ -170,10 +176,6 @@ module _ {N S C R : Type 0} where
     -- counted
     abbrev pub tried_once : Step X → Me X (View N S C R) → ℕ → Me X (View N S C R) → Type 0
     tried_once st m r m' = (i : ℕ) → st.word ≡ lock_at i → (r ≡ 0 → Taken m i m') × (r ≢ 0 → m' ≡ (missing m.0, m.1))
-
-    -- the call that the slot names is in the history, the value went back, and the seat has none
-    abbrev pub given_back : (X → Option (C × R)) → Step X → Me X (View N S C R) → ℕ → Me X (View N S C R) → Type 0
-    given_back made st m r m' = (i : ℕ) (x : X) (c : C) (y : R) → st.word ≡ lock_at i → m.1 ≡ (i, x) ∷ [] → made x ≡ Some (c, y) → (m'.1 ≡ rest m.1) × (m'.0 ≡ served m.0 i (entry m.0.from c y (slot_state x)))
 
     -- what was seen and what was learnt are beginnings of one legal history, and the longer of the two is seen
     pub record Looks (v w : (View N S C R)) : Type 0 where
@@ -187,6 +189,10 @@ module _ {N S C R : Type 0} where
     -- a load that changes nothing but what the seat has seen
     abbrev pub looked : Step X → Me X (View N S C R) → ℕ → Me X (View N S C R) → Type 0
     looked st m r m' = (m'.1 ≡ m.1) × Looks m.0 m'.0
+
+-- the calls that the slot names are in the history, in order, the value went back, and the seat has none
+abbrev pub given_back : {X N S C R : Type 0} → (X → List (Entry S C R)) → Step X → Me X (View N S C R) → ℕ → Me X (View N S C R) → Type 0
+given_back {X} made st m r m' = (i : ℕ) (x : X) → st.word ≡ lock_at i → m.1 ≡ (i, x) ∷ [] → (m'.1 ≡ rest m.1) × (m'.0 ≡ served m.0 i (made x))
 
 -- a step on a word of advice: the seat stays as it was
 abbrev pub advised : {X V : Type 0} → Step X → Me X V → ℕ → Me X V → Type 0

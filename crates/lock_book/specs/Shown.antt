@@ -1,16 +1,27 @@
 -- What a contract sees of a shelf, of its passes and of a closed shelf.
-use Rattle.std.specs.Prelude.{◌≡◌, ℕ, ◌+◌, ◌≤◌, List, [], length, map}
+use Rattle.std.specs.Prelude.{◌≡◌, ◌≢◌, ℕ, ◌+◌, ◌<◌, ◌≤◌, List, [], ◌∷◌, ◌++◌, length, map}
 use mathlib.Core.Option.{some}
 use lib.ListN.{get_elem?}
 use Rattle.lock_book.specs.declared.kept.Kept.{Ghosts}
+use Rattle.atomic_table.specs.Seated.{TableId}
+use Rattle.atomic_table.specs.Table.{Me}
 use Rattle.lock_book.specs.declared.view.Entry.{Entry}
+use Rattle.lock_book.specs.declared.view.View.{View}
 use Rattle.lock_book.specs.declared.shelf.Pass.{Pass}
 use Rattle.lock_book.specs.declared.shelf.Shelf.{Shelf}
 use Rattle.lock_book.specs.declared.close.Closed.{Closed}
 use Rattle.lock_book.specs.declared.joined.Joined.{Joined}
-use Rattle.lock_book.specs.History.{calls_by, StartsWith, IsLegal, row_at}
-use Rattle.lock_book.specs.Ruled.{mine_at, seen_at, view_of}
-use Rattle.lock_book.specs.Told.{IsPass, Adds, Meets}
+use Rattle.lock_book.specs.declared.several.Turn.{Turn}
+use Rattle.lock_book.specs.declared.table.Slot.{Slot}
+use Rattle.lock_book.specs.declared.view.Stage.TheVariants.{Holding}
+use Rattle.lock_book.specs.History.{entry, last_of, made_of, calls_by, StartsWith, IsLegal, row_at}
+use Rattle.lock_book.specs.Ruled.{Fits, mine_at, seen_at, view_of}
+use Rattle.lock_book.specs.Told.{IsPass, Adds, AddsAll, Meets}
+
+-- the calls that the one slot that a seat carries names, in order
+abbrev pub calls_carried : {T S C R : Type 0} → List (ℕ × Slot T S C R) → List (Entry S C R)
+calls_carried [] = []
+calls_carried (x ∷ xs) = made_of x.1.made
 
 -- T is the kept type, E, I and O its environment, input and output, N, S, C and R its names, states, calls and replies,
 -- and g its meanings
@@ -66,6 +77,61 @@ module _ {T E I O N S C R : Type 0} {g : Ghosts T E I O N S C R} where
   -- what a call c with the reply r at one value made of the pass p, which is q afterwards
   abbrev pub Called : Shelf T E I O N S C R → Pass T E I O N S C R g → Pass T E I O N S C R g → ℕ → C → R → Type 0
   Called s p q at c r = Adds g.legal (opens_of s) (number_of p) (seen_of p) (mine_of p) (seen_of q) (mine_of q) at c r
+
+  -- the pass has no seat: a turn has it
+  abbrev pub IsAway : Pass T E I O N S C R g → Type 0
+  IsAway p = p.badge.views ≡ []
+
+  -- the place of a turn's value
+  abbrev pub place_in : Turn T E I O N S C R g → ℕ
+  place_in t = t.at
+
+  -- the number of its caller
+  abbrev pub number_in : Turn T E I O N S C R g → ℕ
+  number_in t = t.seat.me.0.from
+
+  -- the whole history of its value, as it was when the turn began
+  abbrev pub begun_in : Turn T E I O N S C R g → List (Entry S C R)
+  begun_in t = seen_at t.seat.me.0 t.at
+
+  -- the calls of the turn so far, in order
+  abbrev pub calls_in : Turn T E I O N S C R g → List (Entry S C R)
+  calls_in t = calls_carried t.seat.me.1
+
+  -- The seat with this view and this slot has the value `at` of the shelf, in a turn of the pass that was p when it
+  -- began: it has the calls of the turn so far, which are legal after the history that the turn began with, and this
+  -- begins with what the pass had seen
+  pub record HasTurn (s : Shelf T E I O N S C R) (p : Pass T E I O N S C R g) (id : TableId) (me : Me (Slot T S C R) (View N S C R)) (at : ℕ) : Type 0 where
+    pub table : id ≡ s.board.shared.table_id
+    pub place : at < count_of s
+    pub number : me.0.from ≡ number_of p
+    pub opens : me.0.opens ≡ opens_of s
+    pub callers : me.0.callers ≡ callers_of s
+    pub one : length me.0.owns ≡ 1
+    pub holds : me.0.stage ≡ Holding at
+    pub has : (x : Slot T S C R) × (me.1 ≡ (at, x) ∷ []) × Fits (λ x. g.name x.value) (λ x. g.state x.value) g.legal (λ x. made_of x.made) me.0 at x
+    pub stands : IsPass g.legal (opens_of s) (callers_of s) me.0.from (seen_at me.0) (mine_at me.0 0)
+    pub begins : StartsWith (seen_at me.0 at) (seen_of p at)
+    pub others : (j : ℕ) → j ≢ at → seen_at me.0 j ≡ seen_of p j
+    pub mine : (j : ℕ) → mine_at me.0 0 j ≡ mine_of p j
+
+  -- a turn at this shelf, of the pass that was p when it began
+  abbrev pub IsTurn : Shelf T E I O N S C R → Pass T E I O N S C R g → Turn T E I O N S C R g → Type 0
+  IsTurn s p t = HasTurn s p t.seat.table_id t.seat.me t.at
+
+  -- What a call c with the reply r made of the turn t, which is u afterwards: it is the next of the turn's calls, and
+  -- legal right after those before it
+  pub record CalledIn (s : Shelf T E I O N S C R) (t u : Turn T E I O N S C R g) (c : C) (r : R) : Type 0 where
+    pub after : S
+    pub calls : calls_in u ≡ calls_in t ++ entry (number_in t) c r after ∷ []
+    pub step : (o : N × S) → get_elem? (opens_of s) (place_in t) ≡ some o → g.legal o.0 (number_in t) (last_of o.1 (begun_in t ++ calls_in t)) c r after
+    pub begun : begun_in u ≡ begun_in t
+    pub place : place_in u ≡ place_in t
+    pub number : number_in u ≡ number_in t
+
+  -- what the calls of one turn at one value made of the pass p, which is q afterwards
+  abbrev pub CalledAll : Shelf T E I O N S C R → Pass T E I O N S C R g → Pass T E I O N S C R g → ℕ → List (Entry S C R) → Type 0
+  CalledAll s p q at es = AddsAll g.legal (opens_of s) (number_of p) (seen_of p) (mine_of p) (seen_of q) (mine_of q) at es
 
   -- what a meeting with `other` made of the pass p, which is q afterwards
   abbrev pub Met : Pass T E I O N S C R g → Pass T E I O N S C R g → Pass T E I O N S C R g → Type 0

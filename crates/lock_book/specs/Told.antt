@@ -4,7 +4,7 @@ use Rattle.std.specs.Prelude.{◌≡◌, ◌≢◌, ℕ, ◌<◌, ◌≤◌, Lis
 use mathlib.Core.Option.{some}
 use lib.ListN.{get_elem?}
 use Rattle.lock_book.specs.declared.view.Entry.{Entry}
-use Rattle.lock_book.specs.History.{entry, last_of, calls_by, StartsWith, IsLegal, longer}
+use Rattle.lock_book.specs.History.{entry, last_of, calls_by, AreBy, StartsWith, IsLegal, longer}
 
 -- of each value by its place, a history
 abbrev pub Histories : Type 0 → Type 0 → Type 0 → Type 0
@@ -29,6 +29,19 @@ module _ {N S C R : Type 0} (legal : N → ℕ → S → C → R → S → Type 
     pub begins : StartsWith before (seen at)
     pub step : (o : N × S) → get_elem? opens at ≡ some o → legal o.0 n (last_of o.1 before) c r after
     pub mine_grows : mine' at ≡ mine at ++ entry n c r after ∷ []
+    pub others_seen : (j : ℕ) → j ≢ at → seen' j ≡ seen j
+    pub others_mine : (j : ℕ) → j ≢ at → mine' j ≡ mine j
+
+  -- What the calls of one turn at one value add, in order: the history seen afterwards begins with all that was seen
+  -- before and ends with these calls, with no other's between them; they are legal at their places, and are the
+  -- caller's own next ones; at other values nothing changes. A turn in which no call is made shows only the history
+  pub record AddsAll (n : ℕ) (seen mine seen' mine' : Histories S C R) (at : ℕ) (es : List (Entry S C R)) : Type 0 where
+    pub before : List (Entry S C R)
+    pub ends : seen' at ≡ before ++ es
+    pub begins : StartsWith before (seen at)
+    pub steps : (o : N × S) → get_elem? opens at ≡ some o → IsLegal (legal o.0) (last_of o.1 before) es
+    pub by : AreBy n es
+    pub mine_grows : mine' at ≡ mine at ++ es
     pub others_seen : (j : ℕ) → j ≢ at → seen' j ≡ seen j
     pub others_mine : (j : ℕ) → j ≢ at → mine' j ≡ mine j
 

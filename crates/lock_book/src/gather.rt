@@ -33,7 +33,7 @@ pub(crate) fn join_behind<T: Kept>(board: &Board<T>, seat: &mut Place<T>, mut be
 pub(crate) fn gather<T: Kept>(board: &Board<T>, mut passes: Vec<Pass<T>>) -> Place<T>
     requires words { 0 < board.now.shared.table_id.words }
     requires some_pass { 0 < length passes.items }
-    requires passes { (k : ℕ) (p : _) → get_elem? passes.items k ≡ some p → (p.badge.table_id ≡ board.now.shared.table_id) × ((view_of p.badge.views).from ≡ k) × ((view_of p.badge.views).opens ≡ board.now.shared.key.0.value) }
+    requires passes { (k : ℕ) (p : _) → get_elem? passes.items k ≡ some p → (p.badge.table_id ≡ board.now.shared.table_id) × ((view_of p.badge.views).from ≡ k) × ((view_of p.badge.views).opens ≡ board.now.shared.key.0.value) × (length p.badge.views ≡ 1) }
     ensures own { (result.table_id ≡ board.now.shared.table_id) × (result.me.1 ≡ []) }
     ensures view { (result.me.0.from ≡ 0) × (result.me.0.stage ≡ Idle) × (result.me.0.opens ≡ board.now.shared.key.0.value) }
     ensures owns { result.me.0.owns ≡ map (λ p. row_at (view_of p.badge.views).owns 0) passes.items }

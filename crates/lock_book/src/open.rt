@@ -1,6 +1,6 @@
 //! How a shelf is made: each value goes into a slot, and a pass is cut off for each caller.
 
-ghost use Rattle.std.specs.Prelude.{◌≡◌, ℕ, ◌+◌, ◌-◌, ◌*◌, ◌^◌, ◌<◌, ◌≤◌, List, [], ◌∷◌, length, map, replicate, IfOk, None};
+ghost use Rattle.std.specs.Prelude.{◌≡◌, ℕ, ◌+◌, ◌-◌, ◌*◌, ◌^◌, ◌<◌, ◌≤◌, List, [], ◌∷◌, length, map, replicate, vec_capacity, vec_len, IfOk, None};
 ghost use mathlib.Core.Option.{some};
 ghost use lib.ListN.{get_elem?};
 ghost use Rattle.lock_book.specs.Ruled.{fresh_pass, view_of};
@@ -35,26 +35,28 @@ fn free_words(alloc: Global, count: usize) -> Result<Vec<u64>, AllocError>
     vec![in alloc; FREE; width]
 }
 
-/// A pass for each caller.
+/// A pass for each caller, in a list that has room for them.
 fn deal<T: Kept>(
-    alloc: Global,
     board: &Board<T>,
     whole: Place<T>,
     callers: u32,
-) -> Result<Vec<Pass<T>>, AllocError>
+    room: Vec<Pass<T>>,
+) -> Vec<Pass<T>>
     requires own { (whole.table_id ≡ board.now.shared.table_id) × (0 < board.now.shared.table_id.words) × (whole.me.1 ≡ []) }
     requires view { whole.me.0 ≡ fresh_pass whole.me.0.opens callers 0 callers }
-    ensures count { IfOk result (λ v. length v.items ≡ callers) }
-    ensures each { IfOk result (λ v. (k : ℕ) (p : _) → get_elem? v.items k ≡ some p → (p.badge.table_id ≡ board.now.shared.table_id) × (view_of p.badge.views ≡ fresh_pass whole.me.0.opens callers k 1) × (k < callers)) }
+    requires room { (room.items ≡ []) × (vec_len room + callers ≤ vec_capacity room) }
+    ensures count { length result.items ≡ callers }
+    ensures each { (k : ℕ) (p : _) → get_elem? result.items k ≡ some p → (p.badge.table_id ≡ board.now.shared.table_id) × (view_of p.badge.views ≡ fresh_pass whole.me.0.opens callers k 1) × (k < callers) }
 {
-    let mut passes = Vec::new(alloc);
+    let mut passes = room;
     let mut rest = whole;
     for number in 0..callers {
         let next = board.shared.split_seat::<Callers>(&mut rest);
-        passes.push(Pass::new(rest, number))?;
+        passes.push_reserved(Pass::new(rest, number));
         rest = next;
     }
-    Ok(passes)
+    drop(rest.into_badge());
+    passes
 }
 
 impl<T: Kept> Shelf<T> {
@@ -76,12 +78,13 @@ impl<T: Kept> Shelf<T> {
         let opens: Noted<Opens<T>> = Noted::of(&values);
         let slots = shelved(alloc, values)?;
         let words = free_words(alloc, count)?;
+        let room = Vec::with_capacity(alloc, callers as usize)?;
         let about = (opens, callers);
         let (board, whole) = match Table::new(alloc, words.as_slice(), slots, &about) {
             Ok(made) => made,
             Err(Refused { slots: _ }) => return Err(AllocError),
         };
-        let passes = deal(alloc, &board, whole, callers)?;
+        let passes = deal(&board, whole, callers, room);
         let shelf = Shelf {
             board,
             count,

@@ -1,7 +1,7 @@
 //! The shelf, its passes, and a call.
 //!
 //! A pass keeps its seat in a badge, which names no slot, so that it may go to another thread. Between two calls the
-//! seat represents the pass's one caller and has no value.
+//! seat represents the pass's one caller and has no value. While a turn has the seat (`several`), the badge is blank.
 
 ghost use Rattle.std.specs.Prelude.{◌≡◌, ℕ, ◌+◌, ◌*◌, ◌^◌, ◌<◌, ◌≤◌, [], ◌∷◌, length, unwrap_or};
 ghost use mathlib.Core.Option.{some};
@@ -33,17 +33,17 @@ pub struct Shelf<T: Kept> {
 pub struct Pass<T: Kept> {
     pub(crate) badge: Badge<Known<T>>,
     pub(crate) number: u32,
-    pub ghost one: { length badge.views ≡ 1 },
-    pub ghost alone: { length (view_of badge.views).owns ≡ 1 },
+    pub ghost one: { length badge.views ≤ 1 },
+    pub ghost alone: { length (view_of badge.views).owns ≡ length badge.views },
     pub ghost idle: { stage_number (view_of badge.views).stage ≡ 0 },
     pub ghost numbered: { (view_of badge.views).from ≡ number },
 }
 
-/// Takes the seat out of its badge.
+/// Takes the seat out of its badge, which is blank afterwards.
 #[inline(always)]
 pub(crate) fn lend<T: Kept>(badge: &mut Badge<Known<T>>) -> Place<T>
-    requires { length badge.old.views ≡ 1 }
-    ensures { (result.table_id ≡ badge.old.table_id) × (result.me.0 ≡ view_of badge.old.views) × (result.me.1 ≡ []) }
+    requires here { length badge.old.views ≡ 1 }
+    ensures { (result.table_id ≡ badge.old.table_id) × (result.me.0 ≡ view_of badge.old.views) × (result.me.1 ≡ []) × (badge.new.views ≡ []) }
 {
     let whole = mem::replace(badge, Badge::blank());
     whole.into_seat()
@@ -79,6 +79,7 @@ impl<T: Kept> Pass<T> {
     }
 
     pub(crate) fn into_seat(self) -> Place<T>
+        requires here { length self.badge.views ≡ 1 }
         ensures { (result.table_id ≡ self.badge.table_id) × (result.me.0 ≡ view_of self.badge.views) × (result.me.1 ≡ []) × IsFree result.me.0 }
     {
         let Pass { badge, number: _ } = self;

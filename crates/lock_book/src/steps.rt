@@ -1,4 +1,4 @@
-//! The moves of the lock, one by one: take the value, apply the call, give the value back with the call in its history.
+//! The moves of the lock, one by one: take the value, apply calls to it, give it back with these calls in its history.
 //! What is known between two of them is the stage of the seat and the value that it carries.
 //!
 //! A caller that waits too long sleeps on the word of advice. It stores `SOMEBODY` there and looks at the lock once
@@ -6,12 +6,10 @@
 //! sequentially consistent, so the one sees that the value is free or the other sees that somebody sleeps. Nothing is
 //! proved of that.
 
-ghost use Rattle.std.specs.Prelude.{◌≡◌, ℕ, ◌<◌, ◌^◌, true, false, [], ◌∷◌, length, Some, unwrap_or};
-ghost use mathlib.Core.Option.{some};
-ghost use lib.ListN.{get_elem?};
+ghost use Rattle.std.specs.Prelude.{◌≡◌, ℕ, ◌<◌, ◌^◌, true, false, [], ◌∷◌, ◌++◌, length, unwrap_or};
 ghost use Rattle.lock_book.specs.declared.view.Stage.TheVariants.{Holding};
-ghost use Rattle.lock_book.specs.Ruled.{IsFree, lock_at, seen_at, served, sleep_at, Taken};
-ghost use Rattle.lock_book.specs.History.{entry, last_of, made_of};
+ghost use Rattle.lock_book.specs.Ruled.{Fits, IsFree, lock_at, served, sleep_at, Taken};
+ghost use Rattle.lock_book.specs.History.{entry, made_of};
 
 use crate::Kept;
 use crate::noted::Noted;
@@ -175,40 +173,62 @@ pub(crate) fn acquire<T: Kept, R: Wait>(
 }
 
 impl<T: Kept> Held<T> {
+    /// No call of this turn was made yet.
     #[inline(always)]
-    fn apply(&mut self, env: &T::Env, input: T::In) -> T::Out
+    fn begin(&mut self)
+        ensures { (self.new.value ≡ self.old.value) × (made_of self.new.made ≡ []) }
+    {
+        self.made = None;
+    }
+
+    #[inline(always)]
+    fn apply(&mut self, number: u32, env: &T::Env, input: T::In) -> T::Out
         requires env { T.env_fits (T.name self.old.value) env.now }
         requires input { (n : ℕ) × T.in_fits (T.name self.old.value) n input }
         ensures legal { (n : ℕ) → T.in_fits (T.name self.old.value) n input → T.legal (T.name self.old.value) n (T.state self.old.value) (unwrap_or (T.chosen input result) (T.call input)) (T.reply result) (T.state self.new.value) }
         ensures name { T.name self.new.value ≡ T.name self.old.value }
         ensures output { T.out_fits (T.name self.old.value) input result }
-        ensures noted { made_of T.call T.chosen T.reply self.new.made ≡ Some (unwrap_or (T.chosen input result) (T.call input), T.reply result) }
+        ensures noted { made_of self.new.made ≡ made_of self.old.made ++ entry number (unwrap_or (T.chosen input result) (T.call input)) (T.reply result) (T.state self.new.value) ∷ [] }
     {
         let asked: Noted<T::In> = Noted::of(&input);
         let output = self.value.apply(env, input);
         let told: Noted<T::Out> = Noted::of(&output);
-        self.made = Some((asked, told));
+        let after: Noted<T::State> = Noted::of(&self.value);
+        let step = (self.made.take(), number, asked, told, after);
+        self.made = Some(Noted::of(&step));
         output
     }
 }
 
-/// Applies the call to the value that the seat has.
+/// The turn begins with no call.
+#[inline(always)]
+pub(crate) fn begin<T: Kept>(board: &Board<T>, seat: &mut Place<T>, at: usize)
+    requires own { seat.old.table_id ≡ board.now.shared.table_id }
+    requires held { (x : _) × (seat.old.me.1 ≡ (at, x) ∷ []) }
+    ensures own { (seat.new.table_id ≡ seat.old.table_id) × (seat.new.me.0 ≡ seat.old.me.0) }
+    ensures begun { (x : _) × (y : _) × (seat.old.me.1 ≡ (at, x) ∷ []) × (seat.new.me.1 ≡ (at, y) ∷ []) × (y.value ≡ x.value) × (made_of y.made ≡ []) }
+{
+    seat.slot_mut(&board.shared, at).begin();
+}
+
+/// Applies a call of the caller `number` to the value that the seat has.
 #[inline(always)]
 pub(crate) fn serve<T: Kept>(
     board: &Board<T>,
     seat: &mut Place<T>,
+    number: u32,
     at: usize,
     env: &T::Env,
     input: T::In,
 ) -> T::Out
     requires own { seat.old.table_id ≡ board.now.shared.table_id }
-    requires held { (x : _) × (seat.old.me.1 ≡ (at, x) ∷ []) × T.env_fits (T.name x.value) env.now × T.in_fits (T.name x.value) seat.old.me.0.from input }
+    requires held { (x : _) × (seat.old.me.1 ≡ (at, x) ∷ []) × T.env_fits (T.name x.value) env.now × T.in_fits (T.name x.value) number input }
     ensures own { (seat.new.table_id ≡ seat.old.table_id) × (seat.new.me.0 ≡ seat.old.me.0) }
     ensures served { (x : _) × (y : _) × (seat.old.me.1 ≡ (at, x) ∷ []) × (seat.new.me.1 ≡ (at, y) ∷ [])
-        × T.legal (T.name x.value) seat.old.me.0.from (T.state x.value) (unwrap_or (T.chosen input result) (T.call input)) (T.reply result) (T.state y.value) × (T.name y.value ≡ T.name x.value) × T.out_fits (T.name x.value) input result
-        × (made_of T.call T.chosen T.reply y.made ≡ Some (unwrap_or (T.chosen input result) (T.call input), T.reply result)) }
+        × T.legal (T.name x.value) number (T.state x.value) (unwrap_or (T.chosen input result) (T.call input)) (T.reply result) (T.state y.value) × (T.name y.value ≡ T.name x.value) × T.out_fits (T.name x.value) input result
+        × (made_of y.made ≡ made_of x.made ++ entry number (unwrap_or (T.chosen input result) (T.call input)) (T.reply result) (T.state y.value) ∷ []) }
 {
-    seat.slot_mut(&board.shared, at).apply(env, input)
+    seat.slot_mut(&board.shared, at).apply(number, env, input)
 }
 
 /// Wakes one of the callers that sleep until the value `at` is free.
@@ -234,17 +254,16 @@ fn wake_if_asleep<T: Kept>(board: &Board<T>, seat: &mut Place<T>, at: usize)
     }
 }
 
-/// Adds the call to the history of the value that the seat has, and gives the value back: one store. It wakes nobody.
+/// Adds the turn's calls to the history of the value that the seat has, and gives the value back: one store. It wakes
+/// nobody.
 #[inline(always)]
 pub(crate) fn free_value<T: Kept>(board: &Board<T>, seat: &mut Place<T>, at: usize)
     requires own { seat.old.table_id ≡ board.now.shared.table_id }
     requires word { (sleep_at at < board.now.shared.table_id.words) × (sleep_at at < 2 ^ 64) × (at < board.now.shared.table_id.slots) }
     requires holding { seat.old.me.0.stage ≡ Holding at }
-    requires held { (x : _) × (c : _) × (r : _) × (seat.old.me.1 ≡ (at, x) ∷ []) × (made_of T.call T.chosen T.reply x.made ≡ Some (c, r))
-        × ((o : _) → get_elem? seat.old.me.0.opens at ≡ some o → (T.name x.value ≡ o.0) × T.legal o.0 seat.old.me.0.from (last_of o.1 (seen_at seat.old.me.0 at)) c r (T.state x.value)) }
+    requires held { (x : _) × (seat.old.me.1 ≡ (at, x) ∷ []) × Fits (λ x. T.name x.value) (λ x. T.state x.value) T.legal (λ x. made_of x.made) seat.old.me.0 at x }
     ensures own { seat.new.table_id ≡ seat.old.table_id }
-    ensures added { (x : _) (c : _) (r : _) → seat.old.me.1 ≡ (at, x) ∷ [] → made_of T.call T.chosen T.reply x.made ≡ Some (c, r)
-        → (seat.new.me.1 ≡ []) × (seat.new.me.0 ≡ served seat.old.me.0 at (entry seat.old.me.0.from c r (T.state x.value))) }
+    ensures added { (x : _) → seat.old.me.1 ≡ (at, x) ∷ [] → (seat.new.me.1 ≡ []) × (seat.new.me.0 ≡ served seat.old.me.0 at (made_of x.made)) }
 {
     board.shared.store::<Give>(seat, lock_word(at), FREE);
 }
@@ -255,11 +274,9 @@ pub(crate) fn release<T: Kept>(board: &Board<T>, seat: &mut Place<T>, at: usize)
     requires own { seat.old.table_id ≡ board.now.shared.table_id }
     requires word { (sleep_at at < board.now.shared.table_id.words) × (sleep_at at < 2 ^ 64) × (at < board.now.shared.table_id.slots) }
     requires holding { seat.old.me.0.stage ≡ Holding at }
-    requires held { (x : _) × (c : _) × (r : _) × (seat.old.me.1 ≡ (at, x) ∷ []) × (made_of T.call T.chosen T.reply x.made ≡ Some (c, r))
-        × ((o : _) → get_elem? seat.old.me.0.opens at ≡ some o → (T.name x.value ≡ o.0) × T.legal o.0 seat.old.me.0.from (last_of o.1 (seen_at seat.old.me.0 at)) c r (T.state x.value)) }
+    requires held { (x : _) × (seat.old.me.1 ≡ (at, x) ∷ []) × Fits (λ x. T.name x.value) (λ x. T.state x.value) T.legal (λ x. made_of x.made) seat.old.me.0 at x }
     ensures own { seat.new.table_id ≡ seat.old.table_id }
-    ensures added { (x : _) (c : _) (r : _) → seat.old.me.1 ≡ (at, x) ∷ [] → made_of T.call T.chosen T.reply x.made ≡ Some (c, r)
-        → (seat.new.me.1 ≡ []) × (seat.new.me.0 ≡ served seat.old.me.0 at (entry seat.old.me.0.from c r (T.state x.value))) }
+    ensures added { (x : _) → seat.old.me.1 ≡ (at, x) ∷ [] → (seat.new.me.1 ≡ []) × (seat.new.me.0 ≡ served seat.old.me.0 at (made_of x.made)) }
 {
     free_value(board, seat, at);
     wake_if_asleep(board, seat, at);

@@ -9,8 +9,8 @@
 //!   compare-and-exchange, which takes the value out of its slot (`Take`); if it finds another number it changes
 //!   nothing (`TakeOnce` is the same step of a caller that will not wait);
 //! - the value: only the caller that has it reads or writes it;
-//! - the lock's word from that number to 0: only the caller that has the value, by a store after it applied its call,
-//!   which adds the call to the history and puts the value back (`Give`);
+//! - the lock's word from that number to 0: only the caller that has the value, by a store after it applied its calls,
+//!   which adds them to the history, each as one entry, and puts the value back (`Give`);
 //! - the words of advice: anybody, by `Advise`. `sleep_word` is set to 1 before a caller sleeps on it, and to 0 before
 //!   a caller wakes a sleeper; those of `news` are counts. No clause rests on them: a wrong one costs time, and never
 //!   an answer.
@@ -25,26 +25,26 @@ ghost use Rattle.lock_book.specs.Ruled.{Ruled, newcomers, tried, tried_once, giv
 
 use crate::Kept;
 use crate::noted::Noted;
-use crate::view::View;
+use crate::view::{Entry, View};
 use atomic_table::{Join, Play, Seat, Split, Table, TableRule};
 use std::alloc::Global;
 use std::collections::LinkedList;
 
-/// What the last turn at a value was: its input and its output, and None before the first. It is how the store that
-/// gives a value back learns which call it adds to the history, since a step on a word is given only numbers, and sees
-/// the slot. The caller that has the value writes it, as it applies its call; the step `Give` reads the call and the
-/// reply off it (`made_of`), and nothing else does. Only clauses read what is in it, so both parts have no bytes.
-pub type LastTurn<I, O> = Option<(Noted<I>, Noted<O>)>;
+/// The calls of a turn so far, in order, each as the entry that it is going to be; None before the first. It is how the
+/// store that gives a value back learns which calls it adds to the history, since a step on a word is given only
+/// numbers, and sees the slot. The caller that has the value writes it, as it applies its calls; the step `Give` reads
+/// the entries off it (`made_of`), and nothing else does. Only clauses read what is in it, so it has no bytes but the tag.
+pub type ThisTurn<S, C, R> = Option<Noted<LinkedList<Entry<S, C, R>>>>;
 
-/// A locked value, with its last turn.
+/// A locked value, with its turn so far, or with the last one while nobody has it.
 #[derive(Drop)]
-pub struct Slot<T, I, O> {
+pub struct Slot<T, S, C, R> {
     pub value: T,
-    pub made: LastTurn<I, O>,
+    pub made: ThisTurn<S, C, R>,
 }
 
 /// The slot of a kept type.
-pub type Held<T> = Slot<T, <T as Kept>::In, <T as Kept>::Out>;
+pub type Held<T> = Slot<T, <T as Kept>::State, <T as Kept>::Call, <T as Kept>::Reply>;
 
 /// The view of a kept type's seats.
 pub type Known<T> = View<
@@ -83,11 +83,11 @@ impl<T: Kept> Play<Held<T>, Known<T>> for TakeOnce {
     ghost then = { tried_once (λ x. T.name x.value) (λ x. T.state x.value) T.legal };
 }
 
-/// A call goes into the history, and the value goes back.
+/// The calls of the turn go into the history, and the value goes back.
 pub struct Give;
 
 impl<T: Kept> Play<Held<T>, Known<T>> for Give {
-    ghost then = { given_back (λ x. T.name x.value) (λ x. T.state x.value) T.legal (λ x. made_of T.call T.chosen T.reply x.made) };
+    ghost then = { given_back (λ x. made_of x.made) };
 }
 
 /// A word of advice is stored, and nothing else is changed.

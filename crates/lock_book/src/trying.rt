@@ -12,7 +12,7 @@ ghost use Rattle.lock_book.specs.Told.{Adds, IsPass};
 
 use crate::Kept;
 use crate::shelf::{Pass, Shelf, give_back, lend};
-use crate::steps::{FREE, free_value, lock_word, serve};
+use crate::steps::{FREE, begin, free_value, lock_word, serve};
 use crate::table::{Board, Place, TakeOnce};
 
 /// Whether the value `at` was free. The seat then has it; else the try is counted.
@@ -60,7 +60,8 @@ fn try_turn<T: Kept>(
     if !try_once(board, seat, number, at) {
         return Err(input);
     }
-    let output = serve(board, seat, at, env, input);
+    begin(board, seat, at);
+    let output = serve(board, seat, number, at, env, input);
     free_value(board, seat, at);
     Ok(output)
 }

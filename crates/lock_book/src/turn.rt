@@ -8,7 +8,7 @@ ghost use Rattle.lock_book.specs.Ruled.{IsFree, IsSame, mine_at, seen_at, sleep_
 ghost use Rattle.lock_book.specs.Told.{Adds, IsPass};
 
 use crate::Kept;
-use crate::steps::{acquire, release, serve};
+use crate::steps::{acquire, begin, release, serve};
 use crate::table::{Board, Place};
 use std::sync::Wait;
 
@@ -36,7 +36,8 @@ pub(crate) fn take_turn<T: Kept, R: Wait>(
     ensures output { (o : _) → get_elem? seat.old.me.0.opens at ≡ some o → T.out_fits o.0 input result }
 {
     acquire(rt, board, seat, number, at);
-    let output = serve(board, seat, at, env, input);
+    begin(board, seat, at);
+    let output = serve(board, seat, number, at, env, input);
     release(board, seat, at);
     output
 }

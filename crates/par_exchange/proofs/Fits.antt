@@ -8,7 +8,7 @@ use native.Mathlib.Decide.{ℕ_discrete}
 use mathlib.Core.Logic.{dite}
 use Rattle.lock_book.specs.History.{calls_by, entry, last_of, IsLegal}
 use Rattle.lock_book.specs.Told.{Makes}
-use Rattle.lock_book.proofs.Histories.{calls_by_mine}
+use Rattle.lock_book.proofs.Histories.{calls_by_all}
 use Rattle.lock_book.proofs.Uses.{legal-append}
 use Rattle.par_exchange.specs.declared.history.ExchangeState.{ExchangeState}
 use Rattle.par_exchange.specs.declared.history.ExchangeCall.{ExchangeCall}
@@ -300,4 +300,4 @@ module _ {T : Type 0} where
   known_before n m seen before mine mine' c r t same own ends grows =
       let e : Step T = entry n c r t in
       let whole : calls_by n (before ++ e ∷ []) ≡ mine ++ e ∷ [] = ap (λ (z : ℕ × List (Step T)). calls_by z.0 z.1) (λ i. (sym same i, sym ends i)) ∙ (own ∙ grows) in
-      snoc_front (calls_by n before) mine e (sym (calls_by_mine n before c r t) ∙ whole)
+      snoc_front (calls_by n before) mine e (sym (calls_by_all n before (e ∷ []) (refl, tt)) ∙ whole)

@@ -3,7 +3,7 @@ use Rattle.std.proofs.Common.{◌≡◌, ◌≢◌, ◌∙◌, ◌⊎◌, inl, i
 use Rattle.std.proofs.lemmas.Bool.{cases_eq, cases_lt}
 use Rattle.lock_book.specs.declared.view.Entry.{Entry}
 use Rattle.lock_book.specs.History.{StartsWith, calls_by, entry}
-use Rattle.lock_book.proofs.Histories.{calls_by-append, calls_by_mine, calls_by_other, nil_of}
+use Rattle.lock_book.proofs.Histories.{calls_by-append, calls_by_all, calls_by_others, nil_of}
 
 module _ {S C R : Type 0} where
   of_nobody : (xs : List (Entry S C R)) → ((n : ℕ) → calls_by n xs ≡ []) → xs ≡ []
@@ -41,12 +41,12 @@ module _ {S C R : Type 0} where
   before-call callers n c r after before seen p own others none = all-seen before seen p same
     where
       apart : (m : ℕ) → m ≢ n → calls_by m (before ++ entry n c r after ∷ []) ≡ calls_by m seen → calls_by m before ≡ calls_by m seen
-      apart m differs is = sym (calls_by_other m n before c r after (λ e. differs (sym e))) ∙ is
+      apart m differs is = sym (calls_by_others m n before (entry n c r after ∷ []) (refl, tt) (λ e. differs (sym e))) ∙ is
 
       same : (m : ℕ) → calls_by m before ≡ calls_by m seen
       same m = by (cases_eq m n) (cases_lt m callers)
         where
           by : (m ≡ n) ⊎ (m ≡ n → ⊥) → (m < callers) ⊎ (callers ≤ m) → calls_by m before ≡ calls_by m seen
-          by (inl e) w = subst (λ (k : ℕ). calls_by k before ≡ calls_by k seen) (sym e) (last-injective (calls_by n before) (calls_by n seen) (entry n c r after) (sym (calls_by_mine n before c r after) ∙ own))
+          by (inl e) w = subst (λ (k : ℕ). calls_by k before ≡ calls_by k seen) (sym e) (last-injective (calls_by n before) (calls_by n seen) (entry n c r after) (sym (calls_by_all n before (entry n c r after ∷ []) (refl, tt)) ∙ own))
           by (inr d) (inl lt) = apart m d (others m lt d)
           by (inr d) (inr le) = apart m d (none m le d)

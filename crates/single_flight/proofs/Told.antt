@@ -6,7 +6,7 @@ use Rattle.std.proofs.lemmas.List.Folds.{list_any-append}
 use mathlib.Core.Option.{some}
 use lib.ListN.{get_elem?}
 use Rattle.lock_book.specs.History.{IsLegal, StartsWith, calls_by, entry, last_of}
-use Rattle.lock_book.proofs.Histories.{calls_by_mine, last_snoc}
+use Rattle.lock_book.proofs.Histories.{calls_by_all, last_snoc}
 use Rattle.lock_book.proofs.Uses.{last-append, legal-append, legal_back, map_at}
 use Rattle.single_flight.specs.declared.cell.Cell.{Cell}
 use Rattle.single_flight.specs.declared.history.CellState.{CellState}
@@ -129,7 +129,7 @@ pub known_before : {V : Type 0} (n m : ℕ) (seen before mine mine' : List (Step
 known_before {V} n m seen before mine mine' c r t same own ends grows =
     let e : Step V = entry n c r t in
     let whole : calls_by n (before ++ e ∷ []) ≡ mine ++ e ∷ [] = ap (λ (z : ℕ × List (Step V)). calls_by z.0 z.1) (λ i. (sym same i, sym ends i)) ∙ (own ∙ grows) in
-    snoc_front (calls_by n before) mine e (sym (calls_by_mine n before c r t) ∙ whole)
+    snoc_front (calls_by n before) mine e (sym (calls_by_all n before (e ∷ []) (refl, tt)) ∙ whole)
 
 -- each of the cells opens with nothing
 pub opens_so : {L V : Type 0} (cells : List (Cell L V)) → ((k : ℕ) (x : Cell L V) → get_elem? cells k ≡ some x → (x.key ≡ k) × (x.state ≡ Empty 0)) → (k : ℕ) (o : ℕ × CellState V) → get_elem? (map (λ (x : Cell L V). let z : ℕ × CellState V = (x.key, x.state) in z) cells) k ≡ some o → (o.0 ≡ k) × (o.1 ≡ Empty 0)

@@ -9,6 +9,16 @@ use Rattle.lock_book.proofs.Histories.{starts_refl, starts_trans}
 use Rattle.lock_book.proofs.Closing.{rows_step, one_row, left_front, left_last, last_only, from_last}
 use Rattle.lock_book.proofs.gather.gather.Goals as goal
 
+pub into_seat-whole-requires-clause-here : goal.into_seat-whole-requires-clause-here
+into_seat-whole-requires-clause-here g c κs within =
+    let last = left_last (λ k p. get_elem? c.args.passes.items k ≡ some p) c.args.passes.items c.pop.new.self.items c.in-Some.last c.in-Some.ensures.items (λ k p h. h) in
+    (c.requires.passes (length c.pop.new.self.items) c.in-Some.last last).3
+
+pub into_seat-seat-requires-clause-here : goal.into_seat-seat-requires-clause-here
+into_seat-seat-requires-clause-here g c κs within =
+    let at = c.loop-one.invariant.front (length c.pop-in-loop-one.new.self.items) c.in-Some-pop.one (left_last (λ k p. get_elem? c.loop-one.passes.items k ≡ some p) c.loop-one.passes.items c.pop-in-loop-one.new.self.items c.in-Some-pop.one c.in-Some-pop.ensures.items (λ k p h. h)) in
+    (c.requires.passes _ _ at).3
+
 pub loop-one-init : goal.loop-one-init
 loop-one-init g c =
     let e = c.in-Some.ensures.items in

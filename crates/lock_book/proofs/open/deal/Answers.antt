@@ -26,8 +26,9 @@ loop-number-preserved g c =
       here = e.3 ∙ i.here;
       free = ap (λ m. m.1) e.4;
       view = dealt_rest c.args.whole.me.0.opens c.args.callers c.loop-number.number c.args.callers c.loop-number.rest.me.0 c.split_seat-next.result.me.0 c.loop-number-test.true i.view (ap (λ m. m.0) e.4);
-      count = ap length c.in_ok-push.ensures.items ∙ (length-append c.loop-number.passes.items _ ∙ omega (arith, i.count));
-      made = subst (λ xs. (k : ℕ) (p : _) → get_elem? xs k ≡ some p → (p.badge.table_id ≡ c.args.whole.table_id) × (view_of p.badge.views ≡ fresh_pass c.args.whole.me.0.opens c.args.callers k 1) × (k < c.args.callers)) (sym c.in_ok-push.ensures.items)
+      room = omega (arith, i.room, c.push_reserved.ensures.len, c.push_reserved.ensures.capacity, c.loop-number-test.true);
+      count = ap length c.push_reserved.ensures.items ∙ (length-append c.loop-number.passes.items _ ∙ omega (arith, i.count));
+      made = subst (λ xs. (k : ℕ) (p : _) → get_elem? xs k ≡ some p → (p.badge.table_id ≡ c.args.whole.table_id) × (view_of p.badge.views ≡ fresh_pass c.args.whole.me.0.opens c.args.callers k 1) × (k < c.args.callers)) (sym c.push_reserved.ensures.items)
           (each_snoc (λ k p. (p.badge.table_id ≡ c.args.whole.table_id) × (view_of p.badge.views ≡ fresh_pass c.args.whole.me.0.opens c.args.callers k 1) × (k < c.args.callers)) c.loop-number.passes.items c.new.result i.made
           (n.0 ∙ (e.0 ∙ i.here), ap view_of n.1 ∙ (is ∙ ap (λ (k : ℕ). fresh_pass c.args.whole.me.0.opens c.args.callers k 1) (sym i.count)), omega (arith, i.count, c.loop-number-test.true)));
     }

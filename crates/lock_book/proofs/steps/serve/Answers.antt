@@ -14,5 +14,5 @@ returns-clause-served g c =
     let a = c.apply.ensures in
     let h = c.requires.held in
     let same = ap (held_slot h.0) (sym h.1 ∙ c.slot_mut.ensures.value) in
-    let fits = subst (λ z. g.T.Kept.in_fits (g.T.Kept.name z.value) c.args.seat.now.me.0.from c.args.input) same h.3 in
+    let fits = subst (λ z. g.T.Kept.in_fits (g.T.Kept.name z.value) c.args.number c.args.input) same h.3 in
     (x, y, c.slot_mut.ensures.value ∙ ap (λ m. (c.args.at, x) ∷ m) none, ap (λ m. (c.args.at, y) ∷ m) none, a.legal _ fits, a.name, a.output, a.noted)

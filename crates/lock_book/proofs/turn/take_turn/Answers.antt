@@ -1,96 +1,93 @@
-use Rattle.std.proofs.Common.{◌∙◌, sym, ap, subst, unwrap_or}
-use lib.ListN.{get_elem?}
-use Rattle.lock_book.specs.History.{last_of}
-use Rattle.lock_book.specs.Ruled.{seen_at}
+use Rattle.std.proofs.Common.{◌≡◌, ◌∙◌, sym, ap, subst, unwrap_or}
+use Rattle.lock_book.specs.History.{made_of}
 use Rattle.lock_book.proofs.Totals.{there}
-use Rattle.lock_book.proofs.Calls.{slot_taken, slot_is, seen_now, legal_now, whole, whole_stands, same_pass}
+use Rattle.lock_book.proofs.Calls.{slot_taken, slot_known, fits_end, name_is, whole, whole_stands, same_pass}
 use Rattle.lock_book.proofs.turn.take_turn.Goals as goal
+
+pub begin-requires-clause-held : goal.begin-requires-clause-held
+begin-requires-clause-held g c κs within =
+    let K = g.T.Kept in
+    let d = c.acquire.ensures.taken in
+    (d.slot, slot_taken (λ x. K.name x.value) (λ x. K.state x.value) K.legal c.args.at _ _ c.requires.own.1 d)
 
 pub serve-output-requires-clause-held : goal.serve-output-requires-clause-held
 serve-output-requires-clause-held g c κs within =
     let K = g.T.Kept in
     let d = c.acquire.ensures.taken in
+    let b = c.begin.ensures.begun in
     let p = there c.args.seat.now.me.0.opens c.args.at c.requires.place.0 in
-    let k = d.known p.0 p.1 in
+    let k = slot_known (λ x. K.name x.value) (λ x. K.state x.value) K.legal c.args.at _ _ c.requires.own.1 d b.0 b.2 p.0 p.1 in
+    let name = ap K.name b.4 ∙ k.0 in
     let f = c.requires.input p.0 p.1 in (
-      d.slot,
-      slot_taken (λ x. K.name x.value) (λ x. K.state x.value) K.legal c.args.at _ _ c.requires.own.1 d,
-      subst (λ n. K.env_fits n c.args.env.now) (sym k.1) f.0,
-      subst (λ q. K.in_fits (K.name d.slot.value) q c.args.input) (sym (ap (λ v. v.from) d.view)) (subst (λ n. K.in_fits n c.args.seat.now.me.0.from c.args.input) (sym k.1) f.1),
+      b.1,
+      b.3,
+      subst (λ n. K.env_fits n c.args.env.now) (sym name) f.0,
+      subst (λ q. K.in_fits (K.name b.1.value) q c.args.input) c.requires.own.2 (subst (λ n. K.in_fits n c.args.seat.now.me.0.from c.args.input) (sym name) f.1),
     )
 
 pub release-requires-clause-holding : goal.release-requires-clause-holding
-release-requires-clause-holding g c κs within = ap (λ v. v.stage) c.serve-output.ensures.own.1 ∙ ap (λ v. v.stage) c.acquire.ensures.taken.view
+release-requires-clause-holding g c κs within = ap (λ v. v.stage) (c.serve-output.ensures.own.1 ∙ c.begin.ensures.own.1) ∙ ap (λ v. v.stage) c.acquire.ensures.taken.view
 
 pub release-requires-clause-held : goal.release-requires-clause-held
 release-requires-clause-held g c κs within =
     let K = g.T.Kept in
     let d = c.acquire.ensures.taken in
+    let b = c.begin.ensures.begun in
     let s = c.serve-output.ensures.served in
-    let same = c.serve-output.ensures.own.1 in
-    let none = c.requires.own.1 in
     let call = unwrap_or (K.chosen c.args.input c.serve-output.result) (K.call c.args.input) in
-    let reply = K.reply c.serve-output.result in
-    let x = s.0 in
-    let y = s.1 in
-    let seen = ap (λ v. seen_at v c.args.at) same ∙ seen_now (λ x. K.name x.value) (λ x. K.state x.value) K.legal c.args.at _ _ none d in
-    let from = c.acquire.new.seat.me.0.from in (
-      y,
-      call,
-      reply,
+    let reply = K.reply c.serve-output.result in (
+      s.1,
       s.3,
-      s.7,
-      λ o eo.
-          let opened = sym (ap (λ v. get_elem? v.opens c.args.at) (same ∙ d.view)) ∙ eo in
-          let h = legal_now (λ x. K.name x.value) (λ x. K.state x.value) K.legal c.args.at _ _ none d x s.2 from call reply (K.state y.value) s.4 o opened in
-          let e = slot_is (λ x. K.name x.value) (λ x. K.state x.value) K.legal c.args.at _ _ none d x s.2 in (
-            s.5 ∙ (ap (λ z. K.name z.value) (sym e) ∙ (d.known o opened).1),
-            subst (λ q. K.legal o.0 q (last_of o.1 (seen_at c.serve-output.new.seat.me.0 c.args.at)) call reply (K.state y.value)) (sym (ap (λ v. v.from) same))
-                (subst (λ m. K.legal o.0 from (last_of o.1 m) call reply (K.state y.value)) (sym seen) h),
-          ),
+      fits_end (λ x. K.name x.value) (λ x. K.state x.value) K.legal c.args.at _ _ c.requires.own.1 d (λ x. made_of x.made) c.begin.new.seat.me c.serve-output.new.seat.me
+          c.begin.ensures.own.1 c.serve-output.ensures.own.1 c.args.number c.requires.own.2 b.0 b.1 s.0 s.1 b.2 b.3 s.2 (ap K.name b.4) (ap K.state b.4) b.5 call reply s.4 s.5 s.7,
     )
 
 pub returns-clause-own : goal.returns-clause-own
 returns-clause-own g c =
     let s = c.serve-output.ensures.served in
-    (c.release.ensures.own ∙ (c.serve-output.ensures.own.0 ∙ c.acquire.ensures.own), (c.release.ensures.added s.1 _ _ s.3 s.7).0)
+    (c.release.ensures.own ∙ (c.serve-output.ensures.own.0 ∙ (c.begin.ensures.own.0 ∙ c.acquire.ensures.own)), (c.release.ensures.added s.1 s.3).0)
 
 pub returns-clause-same : goal.returns-clause-same
 returns-clause-same g c =
     let K = g.T.Kept in
+    let d = c.acquire.ensures.taken in
+    let b = c.begin.ensures.begun in
     let s = c.serve-output.ensures.served in
-    same_pass (λ x. K.name x.value) (λ x. K.state x.value) K.legal c.args.at _ _ c.requires.own.1 c.acquire.ensures.taken
-    c.serve-output.new.seat.me.0 c.release.new.seat.me.0 _ _ _ c.serve-output.ensures.own.1 (c.release.ensures.added s.1 _ _ s.3 s.7).1
+    let call = unwrap_or (K.chosen c.args.input c.serve-output.result) (K.call c.args.input) in
+    let reply = K.reply c.serve-output.result in
+    same_pass (λ x. K.name x.value) (λ x. K.state x.value) K.legal c.args.at _ _ c.requires.own.1 d (λ x. made_of x.made) c.begin.new.seat.me c.serve-output.new.seat.me
+    c.begin.ensures.own.1 c.serve-output.ensures.own.1 c.args.number c.requires.own.2 b.0 b.1 s.0 s.1 b.2 b.3 s.2 (ap K.name b.4) (ap K.state b.4) b.5 call reply s.4 s.5 s.7 c.release.new.seat.me.0 (c.release.ensures.added s.1 s.3).1
 
 pub returns-clause-called : goal.returns-clause-called
 returns-clause-called g c =
     let K = g.T.Kept in
     let d = c.acquire.ensures.taken in
+    let b = c.begin.ensures.begun in
     let s = c.serve-output.ensures.served in
     let call = unwrap_or (K.chosen c.args.input c.serve-output.result) (K.call c.args.input) in
     let reply = K.reply c.serve-output.result in
-    whole (λ x. K.name x.value) (λ x. K.state x.value) K.legal c.args.at _ _ c.requires.own.1 d
-    c.serve-output.new.seat.me.0 c.release.new.seat.me.0 s.0 call reply (K.state s.1.value)
-    c.serve-output.ensures.own.1 (c.release.ensures.added s.1 call reply s.3 s.7).1 s.2
-    (subst (λ q. K.legal (K.name s.0.value) q (K.state s.0.value) call reply (K.state s.1.value)) (ap (λ v. v.from) d.view) s.4)
+    whole (λ x. K.name x.value) (λ x. K.state x.value) K.legal c.args.at _ _ c.requires.own.1 d (λ x. made_of x.made) c.begin.new.seat.me c.serve-output.new.seat.me
+    c.begin.ensures.own.1 c.serve-output.ensures.own.1 c.args.number c.requires.own.2 b.0 b.1 s.0 s.1 b.2 b.3 s.2 (ap K.name b.4) (ap K.state b.4) b.5 call reply s.4 s.5 s.7 c.release.new.seat.me.0 (c.release.ensures.added s.1 s.3).1
 
 pub returns-clause-stands : goal.returns-clause-stands
 returns-clause-stands g c =
     let K = g.T.Kept in
     let d = c.acquire.ensures.taken in
+    let b = c.begin.ensures.begun in
     let s = c.serve-output.ensures.served in
     let call = unwrap_or (K.chosen c.args.input c.serve-output.result) (K.call c.args.input) in
     let reply = K.reply c.serve-output.result in
-    whole_stands (λ x. K.name x.value) (λ x. K.state x.value) K.legal c.args.at _ _ c.requires.own.1 d
-    c.serve-output.new.seat.me.0 c.release.new.seat.me.0 s.0 call reply (K.state s.1.value)
-    c.serve-output.ensures.own.1 (c.release.ensures.added s.1 call reply s.3 s.7).1 s.2
-    (subst (λ q. K.legal (K.name s.0.value) q (K.state s.0.value) call reply (K.state s.1.value)) (ap (λ v. v.from) d.view) s.4)
-    c.requires.stands
+    whole_stands (λ x. K.name x.value) (λ x. K.state x.value) K.legal c.args.at _ _ c.requires.own.1 d (λ x. made_of x.made) c.begin.new.seat.me c.serve-output.new.seat.me
+    c.begin.ensures.own.1 c.serve-output.ensures.own.1 c.args.number c.requires.own.2 b.0 b.1 s.0 s.1 b.2 b.3 s.2 (ap K.name b.4) (ap K.state b.4) b.5 call reply s.4 s.5 s.7 c.release.new.seat.me.0 (c.release.ensures.added s.1 s.3).1 c.requires.stands
 
 pub returns-clause-output : goal.returns-clause-output
 returns-clause-output g c = λ o eo.
     let K = g.T.Kept in
     let d = c.acquire.ensures.taken in
+    let b = c.begin.ensures.begun in
     let s = c.serve-output.ensures.served in
-    let e = slot_is (λ x. K.name x.value) (λ x. K.state x.value) K.legal c.args.at _ _ c.requires.own.1 d s.0 s.2 in
-    subst (λ n. K.out_fits n c.args.input c.serve-output.result) (ap (λ z. K.name z.value) (sym e) ∙ (d.known o eo).1) s.6
+    let call = unwrap_or (K.chosen c.args.input c.serve-output.result) (K.call c.args.input) in
+    let reply = K.reply c.serve-output.result in
+    let name = name_is (λ x. K.name x.value) (λ x. K.state x.value) K.legal c.args.at _ _ c.requires.own.1 d (λ x. made_of x.made) c.begin.new.seat.me c.serve-output.new.seat.me
+    c.begin.ensures.own.1 c.serve-output.ensures.own.1 c.args.number c.requires.own.2 b.0 b.1 s.0 s.1 b.2 b.3 s.2 (ap K.name b.4) (ap K.state b.4) b.5 call reply s.4 s.5 s.7 o eo in
+    subst (λ n. K.out_fits n c.args.input c.serve-output.result) name s.6

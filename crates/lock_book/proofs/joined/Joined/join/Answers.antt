@@ -5,7 +5,11 @@ use Rattle.lock_book.specs.Shown.{Belongs, number_of, seen_of}
 use Rattle.lock_book.proofs.Histories.{starts_trans}
 use Rattle.lock_book.proofs.Closing.{one_row}
 use Rattle.lock_book.proofs.Endings.{each_cons}
+use Rattle.lock_book.proofs.Uses.{is_here}
 use Rattle.lock_book.proofs.joined.Joined.join.Goals as goal
+
+pub into_seat-seat-requires-clause-here : goal.into_seat-seat-requires-clause-here
+into_seat-seat-requires-clause-here g c κs within = is_here c.args.shelf.now c.args.before c.requires.own
 
 pub join_behind-requires-clause-own : goal.join_behind-requires-clause-own
 join_behind-requires-clause-own g c κs within =

@@ -5,7 +5,11 @@ use Rattle.lock_book.specs.Shown.{Belongs, number_of, seen_of}
 use Rattle.lock_book.proofs.Histories.{starts_refl}
 use Rattle.lock_book.proofs.Closing.{one_row}
 use Rattle.lock_book.proofs.Endings.{only_one}
+use Rattle.lock_book.proofs.Uses.{is_here}
 use Rattle.lock_book.proofs.joined.Joined.new.Goals as goal
+
+pub into_seat-requires-clause-here : goal.into_seat-requires-clause-here
+into_seat-requires-clause-here g c κs within = is_here c.args.shelf.now c.args.last c.requires.own
 
 pub returns : goal.returns
 returns g c =
