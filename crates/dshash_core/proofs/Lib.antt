@@ -12,3 +12,4 @@ pub mod Flats
 pub mod Steps
 pub mod Moves
 pub mod Takes
+pub mod Crowds

@@ -1,5 +1,5 @@
 -- The map of a list of items with different keys, when an item comes, goes or changes.
-use Rattle.std.proofs.Common.{◌≡◌, ◌≢◌, ℕ, suc, ◌+◌, ◌⊎◌, inl, inr, Bool, true, false, cond, List, [], ◌∷◌, ◌++◌, map, length, Option, Some, None, is_some, refl, sym, ap, ◌∙◌, arith, ⊎_elim, nat_cmp, Less, Equal, Greater, is_eq}
+use Rattle.std.proofs.Common.{◌≡◌, ◌≢◌, ℕ, suc, ◌+◌, ◌⊎◌, inl, inr, Bool, true, false, cond, List, [], ◌∷◌, ◌++◌, filter, map, length, Option, Some, None, is_some, refl, sym, ap, ◌∙◌, arith, ⊎_elim, nat_cmp, Less, Equal, Greater, is_eq}
 use Rattle.std.specs.Ordering.{eq_by_cmp}
 use Rattle.std.specs.Cmp.{tied_itself}
 use Rattle.std.specs.Cmp.Lexicographic.{slice_cmp, nat_list_cmp_total}
@@ -115,6 +115,59 @@ module _ {S : Type 0} (decoded : List ℕ → S) where
       (λ (e : q ≡ it.key). ap (look (xs ++ new ∷ ys)) e ∙ look_hit new xs ys (λ x m. keyed_before it xs ys k x (front x xs ys m)) ∙ sym (put_here (table (xs ++ it ∷ ys)) it.key (decoded value) q e))
       (λ (n : q ≢ it.key). look_skip new xs ys q n ∙ sym (look_skip it xs ys q n) ∙ sym (get_is (xs ++ it ∷ ys) q) ∙ sym (put_there (table (xs ++ it ∷ ys)) it.key (decoded value) q n))
       (keys_same_or_not q it.key))
+
+-- keyed items of which some are left out
+among_filter : (q : Item → Bool) (items : List Item) (x : Item) → Among x (filter q items) → Among x items
+among_filter q [] x m = m
+among_filter q (it ∷ items) x m = by (q it) (among_filter q items x) m
+  where
+    by : (b : Bool) → (Among x (filter q items) → Among x items) → Among x (cond {A = List Item} b (it ∷ filter q items) (filter q items)) → Among x (it ∷ items)
+    by true rest (inl e) = inl e
+    by true rest (inr n) = inr (rest n)
+    by false rest n = inr (rest n)
+
+keyed_filter : (q : Item → Bool) (items : List Item) → AreKeyed items → AreKeyed (filter q items)
+keyed_filter q [] k = tt
+keyed_filter q (it ∷ items) k = by (q it) (keyed_filter q items k.1)
+  where
+    by : (b : Bool) → AreKeyed (filter q items) → AreKeyed (cond {A = List Item} b (it ∷ filter q items) (filter q items))
+    by true rest = ((λ x m. k.0 x (among_filter q items x m)), rest)
+    by false rest = rest
+
+-- the keys of a map that pass a test, and the items whose keys do
+module _ {S : Type 0} (decoded : List ℕ → S) (p : List ℕ → Bool) where
+  abbrev passing : List Item → List Item
+  passing items = filter (λ (it : Item). p it.key) items
+
+  no_key : (b : Bool) → None ≡ cond {A = Option S} b None None
+  no_key true = refl
+  no_key false = refl
+
+  look_passing : (items : List Item) (q : List ℕ) → look decoded (passing items) q ≡ cond {A = Option S} (p q) (look decoded items q) None
+  look_passing [] q = no_key (p q)
+  look_passing (it ∷ items) q = by (p it.key) refl (look_passing items q)
+    where
+      by : (b : Bool) → p it.key ≡ b → look decoded (passing items) q ≡ cond {A = Option S} (p q) (look decoded items q) None
+          → look decoded (cond {A = List Item} b (it ∷ passing items) (passing items)) q ≡ cond {A = Option S} (p q) (look decoded (it ∷ items) q) None
+      by true is rest = ⊎_elim
+          (λ (e : q ≡ it.key). look_here decoded it (passing items) q e
+          ∙ sym (ap (λ (c : Bool). cond {A = Option S} c (look decoded (it ∷ items) q) None) (ap p e ∙ is) ∙ look_here decoded it items q e))
+          (λ (n : q ≢ it.key). look_there decoded it (passing items) q n ∙ rest ∙ ap (λ (o : Option S). cond {A = Option S} (p q) o None) (sym (look_there decoded it items q n)))
+          (keys_same_or_not q it.key)
+      by false is rest = ⊎_elim
+          (λ (e : q ≡ it.key). rest ∙ ap (λ (c : Bool). cond {A = Option S} c (look decoded items q) None) (ap p e ∙ is)
+          ∙ sym (ap (λ (c : Bool). cond {A = Option S} c (look decoded (it ∷ items) q) None) (ap p e ∙ is)))
+          (λ (n : q ≢ it.key). rest ∙ ap (λ (o : Option S). cond {A = Option S} (p q) o None) (sym (look_there decoded it items q n)))
+          (keys_same_or_not q it.key)
+
+  kept_is : (items : List Item) → fin.retain_keys (table decoded items) p ≡ table decoded (passing items)
+  kept_is items = same decoded (fin.retain_keys (table decoded items) p) (table decoded (passing items)) (λ q.
+      fin.get-retain_keys (table decoded items) p q (λ x tied. ap p (sym (key_antisymmetric q x tied)))
+      ∙ ap (λ (o : Option S). cond {A = Option S} (p q) o None) (get_is decoded items q)
+      ∙ sym (look_passing items q) ∙ sym (get_is decoded (passing items) q))
+
+  pub kept_len : (items : List Item) → AreKeyed items → fin.len (fin.retain_keys (table decoded items) p) ≡ length (passing items)
+  kept_len items k = ap (λ (m : KeyMap S). fin.len m) (kept_is items) ∙ table_len decoded (passing items) (keyed_filter (λ (it : Item). p it.key) items k)
 
 -- to take out a key that is not there changes nothing
 pub remove_missing : {S : Type 0} (m : KeyMap S) (k : List ℕ) → fin.get m k ≡ None → fin.remove m k ≡ m

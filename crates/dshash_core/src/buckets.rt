@@ -6,7 +6,7 @@
 //! while it hangs. `AreHung` says how the words represent the chains; no two items have a word in common, and no item
 //! hangs twice.
 
-ghost use Rattle.std.specs.Prelude.{◌≡◌, ◌≢◌, ℕ, ◌+◌, ◌*◌, ◌/◌, ◌<◌, ◌≤◌, List, [], ◌∷◌, ◌++◌, ◌^◌, length, MatchOption, IfSome, IfNone};
+ghost use Rattle.std.specs.Prelude.{◌≡◌, ◌≢◌, ℕ, ◌+◌, ◌*◌, ◌/◌, ◌<◌, ◌≤◌, List, [], ◌∷◌, ◌++◌, ◌^◌, ◌↔◌, length, MatchOption, IfSome, IfNone, IsTrue};
 ghost use Rattle.std.specs.List.{All};
 ghost use Rattle.dshash_core.specs.Key.{hash_of};
 ghost use Rattle.dshash_core.specs.Chains.{word, words_at, Item, item_at};
@@ -217,6 +217,23 @@ impl Buckets {
     {
         let _ = bucket;
         self.part.load(r, item)
+    }
+
+    /// Whether a bucket's chain has this many items or more. It looks at no more of them than these.
+    pub(crate) fn is_long(&mut self, r: &Region, bucket: u64, longest: u32) -> bool
+        requires here { self.old.region ≡ r.now }
+        requires bucket { bucket < length self.old.chains }
+        ensures same { self.new ≡ self.old }
+        ensures long { IsTrue result ↔ (longest ≤ length (chain_of self.old bucket)) }
+    {
+        let mut item = self.first(r, bucket);
+        for _passed in 0..longest {
+            if item == 0 {
+                return false;
+            }
+            item = self.next(r, bucket, item);
+        }
+        true
     }
 
     /// The place of the first item of a bucket, if it has one.

@@ -89,7 +89,7 @@ fn insert<O: CellObject>(
 }
 
 /// What the call makes if there is no state yet.
-fn first_step<O: CellObject>(call: &O::Call) -> (Option<O::State>, O::Reply)
+pub(crate) fn first_step<O: CellObject>(call: &O::Call) -> (Option<O::State>, O::Reply)
     ensures { result ≡ O.stepped None call.now }
 {
     let nothing: Option<O::State> = None;

@@ -6,13 +6,15 @@
 //! of a slice own the words of their chains and show them as lists of items (`buckets`); how many there are, and when
 //! there are too few, depends on the partition's size (`sizes`). A call finds its key's item and changes it, takes it
 //! out, or hangs a new one in (`calls`), and its answer says what it lacked (`outcome`); or the partition chooses the
-//! key that goes (`taking`). A listing walks all chains (`entries`). The partition puts these together, and shows one
-//! map (`partition`): `IsPartition` of specs/Cells is its invariant.
+//! key that goes (`taking`). A call may be given a bound on its key's chain (`crowding`). A listing walks all chains
+//! (`entries`). The partition puts these together, and shows one map (`partition`): `IsPartition` of specs/Cells is its
+//! invariant.
 
 #![tactic(auto)]
 
 mod buckets;
 mod calls;
+mod crowding;
 mod entries;
 mod key;
 mod object;

@@ -7,17 +7,18 @@
 //! bucket of its key's hash, each key once, the count is the number of keys, and the number of keys is at most three
 //! quarters of that of the buckets and one more, or the size is 20.
 
-ghost use Rattle.std.specs.Prelude.{◌≡◌, true, false, ◌+◌, ◌*◌, ◌/◌, ◌<◌, ◌≤◌, length, is_some, IfOk, IfNone, IfSome, MatchOption};
+ghost use Rattle.std.specs.Prelude.{◌≡◌, true, false, ◌+◌, ◌*◌, ◌/◌, ◌<◌, ◌≤◌, ◌↔◌, length, is_some, IsTrue, IfErr, IfOk, IfNone, IfSome, MatchOption, OnOk};
 ghost use Rattle.std.specs.FinMap as fin;
 ghost use Rattle.dshash_core.specs.Key.{hash_of, item_size};
 ghost use Rattle.dshash_core.specs.Cells.{IsRoomy, AreCells, TakesIn, buckets_of, cells_of, layout_of};
-ghost use Rattle.dshash_core.specs.Outcome.{AlwaysRemoves, IsDone, IsOutcome, HandsOut, ListsAll};
+ghost use Rattle.dshash_core.specs.Outcome.{AlwaysRemoves, IsCrowded, IsDone, IsOutcome, HandsOut, ListsAll};
 ghost use Rattle.dshash_core.specs.Listing.{HaveWords, pairs_of};
 ghost use Rattle.dshash_core.specs.Chains.{Item};
 ghost use Rattle.dshash_core.specs.Hung.{IsItemChunk};
 
 use crate::buckets::Buckets;
 use crate::calls::answer;
+use crate::crowding::is_crowded;
 use crate::entries::{Entry, list_all};
 use crate::key::hash_key;
 use crate::object::CellObject;
@@ -151,6 +152,65 @@ impl<O: CellObject> Partition<O> {
             call,
             spare,
         )
+    }
+
+    /// Whether the call would hang its key into a chain that has `longest` items already.
+    fn would_crowd(
+        &mut self,
+        r: &Region,
+        hash: u32,
+        key: &[u64],
+        call: &O::Call,
+        longest: u32,
+    ) -> bool
+        requires here { self.old.region ≡ r.now }
+        requires hash { hash ≡ hash_of key.now }
+        requires key { length key.now ≡ self.old.key_words }
+        ensures same { self.new ≡ self.old }
+        ensures crowded { IsTrue result ↔ IsCrowded O.stepped self.old.size self.old.cells key.now call.now longest }
+        ensures roomy { IsRoomy self.new.size (fin.len self.new.cells) }
+    {
+        is_crowded::<O>(
+            &mut self.buckets,
+            r,
+            self.count,
+            self.size,
+            u64::from(hash),
+            key,
+            call,
+            longest,
+        )
+    }
+
+    /// The same, unless it would hang the key into a chain that has `longest` items already: then nothing has changed,
+    /// and the spare item is handed back. A partition all of whose insertions are made so has no chain with more items
+    /// than `longest`, whoever chooses the keys. If the partition has to grow first, that is the answer; to grow parts
+    /// only keys whose hashes differ. It walks the chain once more, at most `longest` items of it.
+    #[inline(always)]
+    pub fn try_call_within(
+        &mut self,
+        r: &Region,
+        hash: u32,
+        key: &[u64],
+        call: &O::Call,
+        spare: Option<Chunk>,
+        longest: u32,
+    ) -> Result<CoreOut<O>, Option<Chunk>>
+        requires here { self.old.region ≡ r.now }
+        requires hash { hash ≡ hash_of key.now }
+        requires key { length key.now ≡ self.old.key_words }
+        requires spare { IfSome spare (λ c. (c.part.region ≡ r.now) × (c.bytes ≡ self.old.item_bytes)) }
+        ensures outcome { IfOk result (λ out. IsOutcome O.stepped self.old.size self.old.cells key.now call.now (is_some spare) out self.new.cells) }
+        ensures same { self.new ≡ record self.old { cells = self.new.cells } }
+        ensures handed { IfOk result (HandsOut self.old.region self.old.item_bytes spare) }
+        ensures within { OnOk result (IsCrowded O.stepped self.old.size self.old.cells key.now call.now longest → ⊥) }
+        ensures crowded { IfErr result (λ back. IsCrowded O.stepped self.old.size self.old.cells key.now call.now longest × (back ≡ spare) × (self.new ≡ self.old)) }
+        ensures roomy { IsRoomy self.new.size (fin.len self.new.cells) }
+    {
+        if self.would_crowd(r, hash, key, call, longest) {
+            return Err(spare);
+        }
+        Ok(self.try_call_with_hash(r, hash, key, call, spare))
     }
 
     /// Takes an entry out, whichever comes next, by a call of its key; None if there is no key. `words` is memory for
