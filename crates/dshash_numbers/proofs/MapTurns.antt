@@ -9,7 +9,7 @@ use Rattle.dshash_parts.specs.Traces.{AreGifts, Asked, Event, Gave, Got, Missed,
 use Rattle.dshash_parts.specs.declared.histories.PartitionCalls.{PartitionCalls}
 use Rattle.dshash_parts.specs.declared.histories.PartitionCalls.TheVariants.{Call, Looks, Moves, Lists}
 use Rattle.dshash_parts.specs.declared.histories.PartitionReplies.{PartitionReplies}
-use Rattle.dshash_parts.specs.declared.histories.PartitionReplies.TheVariants.{Made, LacksItem, HasToGrow, HasSize, Moved, Listed}
+use Rattle.dshash_parts.specs.declared.histories.PartitionReplies.TheVariants.{Made, LacksItem, HasToGrow, Crowded, HasSize, Moved, Listed}
 use Rattle.dshash_numbers.proofs.Lone.{Steps}
 
 module _ {S C R : Type 0} (step : Option S → C → Option S × R) (n : ℕ) where
@@ -18,23 +18,27 @@ module _ {S C R : Type 0} (step : Option S → C → Option S × R) (n : ℕ) wh
   keeps number s t c (Made r u f) none h = absurd none
   keeps number s t (Call k c sp) LacksItem none h = h.1.same
   keeps number s t (Call k c sp) (HasToGrow told back) none h = h.1.same
+  keeps number s t (Call k c sp) (Crowded longest back) none h = ap (λ (x : PartitionState S). x.cells) h.0
   keeps number s t (Call k c sp) (HasSize z m) none h = absurd h
   keeps number s t (Call k c sp) (Moved left) none h = absurd h
   keeps number s t (Call k c sp) (Listed es) none h = absurd h
   keeps number s t Looks (HasSize z m) none h = ap (λ (x : PartitionState S). x.cells) h.1
   keeps number s t Looks LacksItem none h = absurd h
   keeps number s t Looks (HasToGrow told back) none h = absurd h
+  keeps number s t Looks (Crowded longest back) none h = absurd h
   keeps number s t Looks (Moved left) none h = absurd h
   keeps number s t Looks (Listed es) none h = absurd h
   keeps number s t (Moves to) (Moved left) none h = h.0.same
   keeps number s t (Moves to) LacksItem none h = absurd h
   keeps number s t (Moves to) (HasToGrow told back) none h = absurd h
+  keeps number s t (Moves to) (Crowded longest back) none h = absurd h
   keeps number s t (Moves to) (HasSize z m) none h = absurd h
   keeps number s t (Moves to) (Listed es) none h = absurd h
   keeps number s t Lists (Listed (Some es)) none h = ap (λ (x : PartitionState S). x.cells) h.1
   keeps number s t Lists (Listed None) none h = ap (λ (x : PartitionState S). x.cells) h
   keeps number s t Lists LacksItem none h = absurd h
   keeps number s t Lists (HasToGrow told back) none h = absurd h
+  keeps number s t Lists (Crowded longest back) none h = absurd h
   keeps number s t Lists (HasSize z m) none h = absurd h
   keeps number s t Lists (Moved left) none h = absurd h
 
@@ -43,6 +47,7 @@ module _ {S C R : Type 0} (step : Option S → C → Option S × R) (n : ℕ) wh
   none-parts number c (Made r u f) es h = absurd h
   none-parts number c LacksItem es h = (tt, h)
   none-parts number c (HasToGrow told back) es h = (tt, h)
+  none-parts number c (Crowded longest back) es h = (tt, h)
   none-parts number c (HasSize z m) es h = (tt, h)
   none-parts number c (Moved left) es h = (tt, h)
   none-parts number c (Listed entries) es h = (tt, h)

@@ -11,14 +11,15 @@ use Rattle.dshash_parts.specs.Tables.{AtPartition, size_at}
 use Rattle.dshash_parts.specs.declared.histories.PartitionCalls.{PartitionCalls}
 use Rattle.dshash_parts.specs.declared.histories.PartitionCalls.TheVariants.{Call, Looks}
 use Rattle.dshash_parts.specs.declared.histories.PartitionReplies.{PartitionReplies}
-use Rattle.dshash_parts.specs.declared.histories.PartitionReplies.TheVariants.{Made, LacksItem, HasToGrow, HasSize}
+use Rattle.dshash_parts.specs.declared.histories.PartitionReplies.TheVariants.{Made, LacksItem, HasToGrow, Crowded, HasSize}
 use Rattle.dshash_parts.specs.Traces.{Event, Turn, Asked, Requested, Got, Missed, Sight, sight, Trace, fulls}
 use Rattle.dshash_parts.specs.Promises.{AllGrew, IsMadeWith, IsRefusedWith, IsLastCall, KeepsItem, slice_size}
 use Rattle.dshash_parts.specs.Sweeps.{Swept, SweptAndGave, GaveBack}
 use Rattle.dshash_parts.specs.Rounds.{Underway}
+use Rattle.dshash_parts.specs.Within.{IsCrowdedOut}
 use Rattle.dshash_parts.proofs.Sizes.{turn_legal, grow_tells}
 use Rattle.dshash_parts.proofs.Sweeps.{trace_append}
-use Rattle.dshash_parts.proofs.Rounds.{fate_of, gift, gift_among, grew_on, gift_trace, made_end, made_gave, call_made, item_end, item_refused, slice_end, stuck, slice_refused, got_item, all_grew}
+use Rattle.dshash_parts.proofs.Rounds.{fate_of, gift, gift_among, grew_on, gift_trace, made_end, made_gave, call_crowded, call_made, crowded_end, item_end, item_refused, slice_end, stuck, slice_refused, got_item, all_grew}
 
 first_holds : (b c : Bool) → (b && c) ≡ true → b ≡ true
 first_holds true c h = refl
@@ -85,6 +86,22 @@ module _ {S C R : Type 0} (number item : ℕ) (key : List ℕ) (call : C) (step 
     keeps reply unused freed kept one turn =
         let x = (here at who s m s' m' (Call key call spare) (Made reply unused freed) same_at same_who turn).here in
         record { before = x.2.before; after = x.2.after; spare = spare; unused = unused; freed = freed; ends = x.3.0 ∙ x.2.ends; keeps = one }
+
+    -- its chain was too long, and the spare item went back, if there was one
+    pub crowded : (p q : AreaPass) (longest : ℕ) (back : Bool) → back ≡ spare → Underway number item key call step a n false spare v (sight s m p) → size_at s number ≤ 20
+        → AtPartition step who s m s' m' at (Call key call spare) (Crowded longest back) → GaveBack a p q (chunk_size item) back → number_of q ≡ number_of p
+        → (es : List (Event S C R)) × IsCrowdedOut number item key call longest es × Trace step a n v (sight s' m' q) es
+    crowded p q longest back same x low turn gave same_caller =
+        let t = here at who s m s' m' (Call key call spare) (Crowded longest spare) same_at same_who (subst (λ (z : Bool). AtPartition step who s m s' m' at (Call key call spare) (Crowded longest z)) same turn) in
+        let given : GaveBack a p q (chunk_size item) spare = subst (λ (z : Bool). GaveBack a p q (chunk_size item) z) same gave in
+        let begun : fulls x.events + 7 ≤ size_at s number = x.rounds in
+        let rounds : fulls x.events ≤ 13 = omega arith in
+        let fate : Bool = fate_of a p q (chunk_size item) spare given in
+        let tail : List (Event S C R) = crowded_end number item key call spare longest fate in (
+          x.events ++ tail,
+          call_crowded number item key call x.events spare longest fate x.is rounds,
+          trace_append step a n v (sight s m p) (sight s' m' q) x.events tail x.trace (sight s' m' p, (t, refl), gift_trace step a n s' m' p q (chunk_size item) spare given same_caller),
+        )
 
     -- the call lacks an item, so it came with none
     bare : AtPartition step who s m s' m' at (Call key call spare) LacksItem → (spare ≡ false) × AtPartition step n s m s' m' number (Call key call false) LacksItem

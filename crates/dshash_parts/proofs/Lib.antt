@@ -8,6 +8,7 @@ pub mod Rounds
 pub mod Spares
 pub mod Ends
 pub mod Opening
+pub mod Slices
 pub mod Cells
 pub mod Owners
 pub mod Callers
@@ -16,4 +17,6 @@ pub mod Done
 pub mod Takings
 pub mod Tries
 pub mod Visits
+pub mod InTurns
 pub mod Homes
+pub mod Causes

@@ -20,7 +20,7 @@ use Rattle.dshash_parts.specs.Replays.{calls_of_key, made_of, IsRun}
 use Rattle.dshash_parts.specs.declared.histories.PartitionCalls.{PartitionCalls}
 use Rattle.dshash_parts.specs.declared.histories.PartitionCalls.TheVariants.{Call, Looks, Moves, Lists}
 use Rattle.dshash_parts.specs.declared.histories.PartitionReplies.{PartitionReplies}
-use Rattle.dshash_parts.specs.declared.histories.PartitionReplies.TheVariants.{Made, LacksItem, HasToGrow, HasSize, Moved, Listed}
+use Rattle.dshash_parts.specs.declared.histories.PartitionReplies.TheVariants.{Made, LacksItem, HasToGrow, Crowded, HasSize, Moved, Listed}
 use Rattle.dshash_parts.proofs.Uses.{partition_low}
 use Rattle.dshash_parts.proofs.Replays.{changed_else, changed_here, one, run_append}
 
@@ -37,6 +37,7 @@ module _ {S C R : Type 0} (step : Option S → C → Option S × R) (number : �
       (keys_same_or_not q k)
   turn_ours before after (Call k c sp) LacksItem h own ours q there = kept q before after (one step q before after (Call k c sp) LacksItem h) ours there
   turn_ours before after (Call k c sp) (HasToGrow told back) h own ours q there = kept q before after (one step q before after (Call k c sp) (HasToGrow told back) h) ours there
+  turn_ours before after (Call k c sp) (Crowded longest back) h own ours q there = kept q before after (one step q before after (Call k c sp) (Crowded longest back) h) ours there
   turn_ours before after (Call k c sp) (HasSize size keys) h own ours q there = absurd h
   turn_ours before after (Call k c sp) (Moved left) h own ours q there = absurd h
   turn_ours before after (Call k c sp) (Listed es) h own ours q there = absurd h
@@ -57,7 +58,7 @@ module _ {S C R : Type 0} (step : Option S → C → Option S × R) (may : ℕ �
     after_ours : AreOurs number e.after.cells
     after_ours = let turn = (h ours).0 in turn_ours step number s e.after e.call e.reply turn.is turn.ours ours
 
-  lawful_from : (s : PartitionState S) (es : List (Entry (PartitionState S) (PartitionCalls C) (PartitionReplies S R))) → AreOurs number s.cells → IsLegal Taken s es → IsLegal (λ _. PartitionLegal step number) s es
+  pub lawful_from : (s : PartitionState S) (es : List (Entry (PartitionState S) (PartitionCalls C) (PartitionReplies S R))) → AreOurs number s.cells → IsLegal Taken s es → IsLegal (λ _. PartitionLegal step number) s es
   lawful_from s [] ours h = tt
   lawful_from s (e ∷ es) ours h = ((h.0 ours).0, lawful_from e.after es (after_ours s e ours h.0) h.1)
 
@@ -108,6 +109,7 @@ module _ {S C R : Type 0} (step : Option S → C → Option S × R) (may : ℕ �
   turn_same other ne before after (Call k c sp) (Made r u f) lets h = done_same other ne before after k c sp r u f lets h.1
   turn_same other ne before after (Call k c sp) LacksItem lets h = one step key before after (Call k c sp) LacksItem h
   turn_same other ne before after (Call k c sp) (HasToGrow told back) lets h = one step key before after (Call k c sp) (HasToGrow told back) h
+  turn_same other ne before after (Call k c sp) (Crowded longest back) lets h = one step key before after (Call k c sp) (Crowded longest back) h
   turn_same other ne before after (Call k c sp) (HasSize size keys) lets h = absurd h
   turn_same other ne before after (Call k c sp) (Moved left) lets h = absurd h
   turn_same other ne before after (Call k c sp) (Listed es) lets h = absurd h

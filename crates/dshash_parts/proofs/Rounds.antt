@@ -11,9 +11,10 @@ use Rattle.dshash_parts.specs.Tables.{AtPartition, size_at}
 use Rattle.dshash_parts.specs.declared.histories.PartitionCalls.{PartitionCalls}
 use Rattle.dshash_parts.specs.declared.histories.PartitionCalls.TheVariants.{Call, Looks, Moves, Lists}
 use Rattle.dshash_parts.specs.declared.histories.PartitionReplies.{PartitionReplies}
-use Rattle.dshash_parts.specs.declared.histories.PartitionReplies.TheVariants.{Made, LacksItem, HasToGrow, HasSize, Moved, Listed}
+use Rattle.dshash_parts.specs.declared.histories.PartitionReplies.TheVariants.{Made, LacksItem, HasToGrow, Crowded, HasSize, Moved, Listed}
 use Rattle.dshash_parts.specs.Traces.{Event, Turn, Asked, Requested, Got, Missed, Gave, Sight, sight, Trace, asked, fulls, NoneMade, AreGifts}
 use Rattle.dshash_parts.specs.Promises.{AllGrew, HadToGrow, IsFrugal, IsLeftOver, LackedItem, IsMadeWith, IsRefusedWith, all_brought, all_took, count_if, one_if, slice_size}
+use Rattle.dshash_parts.specs.Within.{IsCrowdedOut}
 use Rattle.dshash_parts.specs.Sweeps.{IsSweep, AreSweeps, GivesLeftOvers, SlicesBalance, Swept, GaveBack}
 use Rattle.dshash_parts.specs.Rounds.{AreCaused, IsUnderway, Underway}
 use Rattle.dshash_parts.proofs.Sweeps.{among_back, among_front, among_parts, trace_append, brought_append, took_append, asked_append}
@@ -23,6 +24,7 @@ module _ {S C R : Type 0} where
   fulls_cons (Turn number call (Made r u f)) es = omega arith
   fulls_cons (Turn number call LacksItem) es = omega arith
   fulls_cons (Turn number call (HasToGrow size back)) es = omega arith
+  fulls_cons (Turn number call (Crowded longest back)) es = omega arith
   fulls_cons (Turn number call (HasSize size keys)) es = omega arith
   fulls_cons (Turn number call (Moved left)) es = omega arith
   fulls_cons (Turn number call (Listed entries)) es = omega arith
@@ -37,6 +39,7 @@ module _ {S C R : Type 0} where
   none_append (Turn number call (Made r u f) ∷ es) fs x y = absurd x
   none_append (Turn number call LacksItem ∷ es) fs x y = none_append es fs x y
   none_append (Turn number call (HasToGrow size back) ∷ es) fs x y = none_append es fs x y
+  none_append (Turn number call (Crowded longest back) ∷ es) fs x y = none_append es fs x y
   none_append (Turn number call (HasSize size keys) ∷ es) fs x y = none_append es fs x y
   none_append (Turn number call (Moved left) ∷ es) fs x y = none_append es fs x y
   none_append (Turn number call (Listed entries) ∷ es) fs x y = none_append es fs x y
@@ -55,11 +58,13 @@ module _ {S C R : Type 0} where
   sweeps_quiet size (Turn number Looks (Made r u f) ∷ es) h = absurd h.0
   sweeps_quiet size (Turn number Looks LacksItem ∷ es) h = absurd h.0
   sweeps_quiet size (Turn number Looks (HasToGrow told back) ∷ es) h = absurd h.0
+  sweeps_quiet size (Turn number Looks (Crowded longest back) ∷ es) h = absurd h.0
   sweeps_quiet size (Turn number Looks (Moved left) ∷ es) h = absurd h.0
   sweeps_quiet size (Turn number Looks (Listed entries) ∷ es) h = absurd h.0
   sweeps_quiet size (Turn number (Moves to) (Made r u f) ∷ es) h = absurd h.0
   sweeps_quiet size (Turn number (Moves to) LacksItem ∷ es) h = absurd h.0
   sweeps_quiet size (Turn number (Moves to) (HasToGrow told back) ∷ es) h = absurd h.0
+  sweeps_quiet size (Turn number (Moves to) (Crowded longest back) ∷ es) h = absurd h.0
   sweeps_quiet size (Turn number (Moves to) (HasSize found keys) ∷ es) h = absurd h.0
   sweeps_quiet size (Turn number (Moves to) (Listed entries) ∷ es) h = absurd h.0
 
@@ -301,6 +306,37 @@ module _ {S C R : Type 0} (number item : ℕ) (key : List ℕ) (call : C) where
           gifts = caused.gifts;
           asks = let p = asked_append es tail in let q = fulls_append es tail in let b = x.asks in omega arith;
           rounds = let q = fulls_append es tail in omega arith;
+        };
+      }
+
+  -- the end of a call whose chain was too long: its spare item was given back, if there was one
+  abbrev pub crowded_end : Bool → ℕ → Bool → List (Event S C R)
+  crowded_end spare longest fate = Turn number (Call key call spare) (Crowded longest spare) ∷ gift (chunk_size item) fate spare
+
+  pub call_crowded : (es : List (Event S C R)) (spare : Bool) (longest : ℕ) (fate : Bool) → IsUnderway number item key call false spare es → fulls es ≤ 13 → IsCrowdedOut number item key call longest (es ++ crowded_end spare longest fate)
+  call_crowded es spare longest fate x few =
+      let tail : List (Event S C R) = crowded_end spare longest fate in
+      let g : OnlyGift S C R (chunk_size item) fate spare = only_gift S C R (chunk_size item) fate spare in
+      let late : AreCaused number item key call (es ++ tail) (gift (chunk_size item) fate spare) = gift_caused (es ++ tail) fate spare in
+      let caused = caused_both number item key call es tail x.caused (record {
+        moves = λ k to left y. ⊎_elim (λ e. absurd (cc)) (λ (r : Among (Turn k (Moves to) (Moved left)) (gift (chunk_size item) fate spare)). late.moves k to left r) y;
+        grants = λ bytes y. ⊎_elim (λ e. absurd (cc)) (λ (r : Among (Asked (Got bytes)) (gift (chunk_size item) fate spare)). late.grants bytes r) y;
+        gifts = λ bytes accepted y. ⊎_elim (λ e. absurd (cc)) (λ (r : Among (Asked (Gave bytes accepted)) (gift (chunk_size item) fate spare)). late.gifts bytes accepted r) y;
+      }) in
+      record {
+        before = es;
+        after = gift (chunk_size item) fate spare;
+        spare = spare;
+        is = refl;
+        none = none_append es tail x.none g.none;
+        gifts_after = g.are;
+        balance = λ bytes. let p = brought_append (chunk_size item) bytes es tail in let q = took_append (chunk_size item) bytes es tail in let b = x.balance bytes in let u = g.took_is (chunk_size item) bytes in let v = g.brought_none (chunk_size item) bytes in omega arith;
+        frugal = record {
+          moves = caused.moves;
+          grants = caused.grants;
+          gifts = caused.gifts;
+          asks = let p = asked_append es tail in let q = fulls_append es tail in let b = x.asks in let t = one_at_most spare in let u = g.asked_none in let v = g.fulls_none in omega arith;
+          rounds = let q = fulls_append es tail in let v = g.fulls_none in omega arith;
         };
       }
 

@@ -9,14 +9,14 @@ use Rattle.dshash_core.specs.declared.outcome.CoreOut.{CoreOut}
 use Rattle.dshash_core.specs.declared.outcome.CoreOut.TheVariants.{Done, NeedItem, TooFull}
 use Rattle.dshash_parts.specs.States.{PartitionState}
 use Rattle.dshash_parts.specs.declared.asks.TableAsk.{TableAsk}
-use Rattle.dshash_parts.specs.declared.asks.TableAsk.TheVariants.{Make, Look, Grow, List as ListAll, Take}
+use Rattle.dshash_parts.specs.declared.asks.TableAsk.TheVariants.{Make, MakeWithin, Look, Grow, List as ListAll, Take}
 use Rattle.dshash_parts.specs.declared.asks.TableAnswer.{TableAnswer}
-use Rattle.dshash_parts.specs.declared.asks.TableAnswer.TheVariants.{Came, Size, LeftOver, Entries, Took}
+use Rattle.dshash_parts.specs.declared.asks.TableAnswer.TheVariants.{Came, Long, Size, LeftOver, Entries, Took}
 use Rattle.dshash_parts.specs.declared.histories.PartitionName.{PartitionName}
 use Rattle.dshash_parts.specs.declared.histories.PartitionCalls.{PartitionCalls}
 use Rattle.dshash_parts.specs.declared.histories.PartitionCalls.TheVariants.{Call, Looks, Moves, Lists}
 use Rattle.dshash_parts.specs.declared.histories.PartitionReplies.{PartitionReplies}
-use Rattle.dshash_parts.specs.declared.histories.PartitionReplies.TheVariants.{Made, LacksItem, HasToGrow, HasSize, Moved, Listed}
+use Rattle.dshash_parts.specs.declared.histories.PartitionReplies.TheVariants.{Made, LacksItem, HasToGrow, Crowded, HasSize, Moved, Listed}
 
 -- the name of the partition of this number
 abbrev pub name_of : {S : Type 0} → ℕ → PartitionView S → PartitionName
@@ -36,6 +36,7 @@ module _ {O S C R : Type 0} where
   -- the call of an ask. If a key is to come and none does, it was a look
   abbrev pub call_of : TableAsk O S C R → PartitionCalls C
   call_of (Make hash key call spare) = Call key call (is_some spare)
+  call_of (MakeWithin longest hash key call spare) = Call key call (is_some spare)
   call_of Look = Looks
   call_of (Grow size slice) = Moves size
   call_of (ListAll alloc) = Lists
@@ -55,6 +56,7 @@ module _ {O S C R : Type 0} where
   -- the reply of an answer
   abbrev pub reply_of : TableAnswer O S C R → PartitionReplies S R
   reply_of (Came out) = outcome_of out
+  reply_of (Long longest spare) = Crowded longest (is_some spare)
   reply_of (Size size keys) = HasSize size keys
   reply_of (LeftOver slice) = Moved slice.bytes
   reply_of (Entries entries) = listed_of (λ v. pairs_of v.items) entries
@@ -65,15 +67,19 @@ module _ {O S C R : Type 0} where
   -- that is to come there is a word for each of its words
   abbrev pub AskFits : PartitionName → TableAsk O S C R → Type 0
   AskFits n (Make hash key call spare) = (length key ≡ n.key_words) × (hash ≡ hash_of key) × (partition_of (hash_of key) ≡ n.number) × IfSome spare (λ c. (c.part.region ≡ n.region) × (c.bytes ≡ n.item_bytes))
+  AskFits n (MakeWithin longest hash key call spare) = (length key ≡ n.key_words) × (hash ≡ hash_of key) × (partition_of (hash_of key) ≡ n.number) × IfSome spare (λ c. (c.part.region ≡ n.region) × (c.bytes ≡ n.item_bytes))
   AskFits n Look = Unit {0}
   AskFits n (Grow size slice) = (8 ≤ size) × (size ≤ 20) × (slice.part.region ≡ n.region) × (buckets_of size ≤ slice.bytes / 8)
   AskFits n (ListAll alloc) = Unit {0}
   AskFits n (Take call words) = length words.items ≡ n.key_words
 
-  -- what is handed out is the spare itself or an item; a slice that is left over is of this region; a size is from 7 to
-  -- 20; keys that are listed have the table's length. If no key came there are none
+  -- what is handed out is the spare itself or an item; a chain is too long for the bound that came, and the spare comes
+  -- back; a slice that is left over is of this region; a size is from 7 to 20; keys that are listed have the table's
+  -- length. If no key came there are none
   abbrev pub AnswerFits : PartitionName → TableAsk O S C R → TableAnswer O S C R → Type 0
   AnswerFits n (Make hash key call spare) (Came out) = HandsOut n.region n.item_bytes spare out
+  AnswerFits n (MakeWithin longest hash key call spare) (Came out) = HandsOut n.region n.item_bytes spare out
+  AnswerFits n (MakeWithin longest hash key call spare) (Long most back) = (most ≡ longest) × (back ≡ spare)
   AnswerFits n Look (Size size keys) = (7 ≤ size) × (size ≤ 20)
   AnswerFits n (Grow size slice) (LeftOver left) = left.part.region ≡ n.region
   AnswerFits n (ListAll alloc) (Entries entries) = IfOk entries (λ v. HaveWords n.key_words (pairs_of v.items))
@@ -87,6 +93,7 @@ module _ {O S C R : Type 0} (step : Option S → C → Option S × R) (may : ℕ
   -- key comes removes whatever is there, and is one that it may make of each key of the partition
   abbrev pub MayAsk : ℕ → ℕ → TableAsk O S C R → Type 0
   MayAsk number caller (Make hash key call spare) = may caller key call
+  MayAsk number caller (MakeWithin longest hash key call spare) = may caller key call
   MayAsk number caller Look = Unit {0}
   MayAsk number caller (Grow size slice) = Unit {0}
   MayAsk number caller (ListAll alloc) = Unit {0}

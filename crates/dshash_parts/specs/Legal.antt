@@ -4,12 +4,12 @@ use Rattle.std.specs.FinMap as fin
 use Rattle.lock_book.specs.declared.view.Entry.{Entry}
 use Rattle.dshash_core.specs.Key.{hash_of}
 use Rattle.dshash_core.specs.Cells.{IsRoomy, KeyMap, buckets_of, partition_of}
-use Rattle.dshash_core.specs.Outcome.{IsDone, IsNeedItem, IsTooFull, ListsAll, IsMoved}
+use Rattle.dshash_core.specs.Outcome.{IsCrowded, IsDone, IsNeedItem, IsTooFull, ListsAll, IsMoved}
 use Rattle.dshash_parts.specs.States.{PartitionState}
 use Rattle.dshash_parts.specs.declared.histories.PartitionCalls.{PartitionCalls}
 use Rattle.dshash_parts.specs.declared.histories.PartitionCalls.TheVariants.{Call, Looks, Moves, Lists}
 use Rattle.dshash_parts.specs.declared.histories.PartitionReplies.{PartitionReplies}
-use Rattle.dshash_parts.specs.declared.histories.PartitionReplies.TheVariants.{Made, LacksItem, HasToGrow, HasSize, Moved, Listed}
+use Rattle.dshash_parts.specs.declared.histories.PartitionReplies.TheVariants.{Made, LacksItem, HasToGrow, Crowded, HasSize, Moved, Listed}
 
 -- what a move from a size leaves over is a slice with a word for each bucket of that size, or of the one that was
 -- wanted, if that is smaller
@@ -22,6 +22,7 @@ module _ {S C R : Type 0} (step : Option S → C → Option S × R) where
   IsTurn before (Call key call spare) (Made reply unused freed) after = (after.size ≡ before.size) × IsDone step before.size before.cells key call spare reply unused freed after.cells
   IsTurn before (Call key call spare) LacksItem after = (after.size ≡ before.size) × IsNeedItem step before.size before.cells key call spare after.cells
   IsTurn before (Call key call spare) (HasToGrow size back) after = (after.size ≡ before.size) × IsTooFull step before.size before.cells key call spare size back after.cells
+  IsTurn before (Call key call spare) (Crowded longest back) after = (after ≡ before) × (back ≡ spare) × IsCrowded step before.size before.cells key call longest
   IsTurn before Looks (HasSize size keys) after = (size ≡ before.size) × (after ≡ before) × (keys ≡ fin.len before.cells)
   IsTurn before (Moves to) (Moved left) after = IsMoved before.size before.cells to after.size after.cells × LeavesOver before.size to left
   IsTurn before Lists (Listed (Some entries)) after = ListsAll before.cells entries × (after ≡ before)

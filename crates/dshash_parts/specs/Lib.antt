@@ -3,6 +3,7 @@ pub mod States
 pub mod Asked
 pub mod Legal
 pub mod Tables
+pub mod Turns
 pub mod Ending
 pub mod Traces
 pub mod Replays
@@ -17,3 +18,4 @@ pub mod Done
 pub mod Takes
 pub mod Tries
 pub mod Uses
+pub mod Within

@@ -81,7 +81,7 @@ where
 }
 
 /// All partitions of a smaller size move to this one. If there is no slice for one of them, the spare goes back.
-fn double<R: Wait, O: CellObject + Send>(
+pub(crate) fn double<R: Wait, O: CellObject + Send>(
     rt: &R,
     table: &Dshash<O>,
     r: &Region,

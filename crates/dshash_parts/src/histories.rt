@@ -51,6 +51,9 @@ pub enum PartitionReplies<S, R> {
     LacksItem,
     /// The partition, of this size, has to grow first; whether the spare was handed back.
     HasToGrow(u32, bool),
+    /// The key's chain has this many items or more, and the call would hang one more in; whether the spare was handed
+    /// back.
+    Crowded(u32, bool),
     /// The size, and the number of keys.
     HasSize(u32, u64),
     /// The move was made, or was not needed any more; the bytes of the slice that was left over.

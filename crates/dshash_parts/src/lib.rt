@@ -7,8 +7,9 @@
 //! of a key are, in one history, those of one cell, while partitions move between any two of them (`laws`).
 //!
 //! `numbered` is the locked value, `turns` one event at it, `requests` one request to the area; `growing`, `calls`,
-//! `finding` and `taking` put these together. `trying` has the turns that will not wait. `open` and `close` are how a
-//! table begins and ends, `origin` is how clauses know its area, and `listing` lists its entries.
+//! `finding` and `taking` put these together. `within` has the calls that bound the chains, `trying` the turns that will
+//! not wait, and `several` the turns of several calls. `open` and `close` are how a table begins and ends, `origin` is
+//! how clauses know its area, and `listing` lists its entries.
 
 #![tactic(auto)]
 
@@ -25,11 +26,13 @@ mod numbered;
 mod open;
 mod origin;
 mod requests;
+mod several;
 mod table;
 mod taking;
 mod trying;
 mod turns;
 mod visiting;
+mod within;
 
 pub use asks::{TableAnswer, TableAsk};
 pub use close::ClosedTable;
@@ -39,6 +42,8 @@ pub use laws::{
     callers_make_all, cells_fold, keys_are_cells, owners_have_cells, sizes_grow, stays_roomy,
 };
 pub use numbered::Numbered;
-pub use open::DsNew;
+pub use open::{DsNew, cut_slices};
+pub use several::DsTurn;
 pub use table::{DsPass, Dshash};
 pub use trying::Busy;
+pub use within::NoRoom;

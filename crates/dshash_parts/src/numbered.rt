@@ -67,6 +67,12 @@ where
             TableAsk::Make(hash, key, call, spare) => {
                 TableAnswer::Came(partition.try_call_with_hash(r, hash, key.words(), &call, spare))
             }
+            TableAsk::MakeWithin(longest, hash, key, call, spare) => {
+                match partition.try_call_within(r, hash, key.words(), &call, spare, longest) {
+                    Ok(out) => TableAnswer::Came(out),
+                    Err(spare) => TableAnswer::Long(longest, spare),
+                }
+            }
             TableAsk::Look => TableAnswer::Size(partition.size(), partition.count()),
             TableAsk::Grow(size, slice) => TableAnswer::LeftOver(grow(partition, r, size, slice)),
             TableAsk::List(alloc) => TableAnswer::Entries(partition.list(alloc, r)),

@@ -1,9 +1,11 @@
 //! How a table is made: a bucket slice of one word for each partition, and a pass for each caller.
 
-ghost use Rattle.std.specs.Prelude.{◌≡◌, ℕ, ◌≤◌, ◌^◌, [], length, map, replicate, IfOk, IfErr};
+ghost use Rattle.std.specs.Prelude.{◌≡◌, ℕ, ◌+◌, ◌<◌, ◌≤◌, ◌^◌, [], length, map, replicate, IfOk, IfErr, IsSome, OnErr, OnOk};
 ghost use mathlib.Core.Option.{some};
 ghost use lib.ListN.{get_elem?};
 ghost use Rattle.lock_book.specs.Shown.{mine_of, seen_of};
+ghost use Rattle.word_map.specs.WordMap.{at as word_at, rest_of};
+ghost use Rattle.region_words.specs.Parts.{owned};
 ghost use Rattle.dsa_area.specs.Shown.{Belongs as AreaBelongs, IsArea, number_of as area_number};
 ghost use Rattle.dshash_core.specs.Key.{item_size};
 ghost use Rattle.dshash_parts.specs.Asked.{name_of, state_of};
@@ -18,7 +20,7 @@ use crate::table::{DsPass, Dshash};
 use dsa_area::{Area, AreaPass, NoSpace, chunk_bytes};
 use dshash_core::{CellObject, PARTITIONS, Partition, item_bytes};
 use lock_book::Shelf;
-use region_words::{Chunk, Region};
+use region_words::{Chunk, Part, Region};
 use std::alloc::{AllocError, Global};
 use std::sync::Wait;
 
@@ -84,6 +86,33 @@ fn take_slices<R: Wait>(
                 return Err(DsNew::NoSpace { pages, largest });
             }
         }
+    }
+    Ok(slices)
+}
+
+/// Cuts the 128 slices of a word each that `on_slices` takes off a part, from its word `from` on. It asks no area, so
+/// an area that is made on the rest opens with all of its pages free. It takes memory for the list of the slices.
+pub fn cut_slices(
+    alloc: Global,
+    r: &Region,
+    part: &mut Part,
+    from: u64,
+) -> Result<Vec<Chunk>, AllocError>
+    requires here { part.old.region ≡ r.now }
+    requires valid { 0 < from }
+    requires owns { (k : ℕ) → from ≤ k → k < from + 128 → IsSome (word_at part.old.words k) }
+    ensures here { part.new.region ≡ r.now }
+    ensures count { IfOk result (λ v. length v.items ≡ 128) }
+    ensures slices { IfOk result (λ v. HaveWords r.now v.items) }
+    ensures rest { OnOk result (part.new ≡ owned part.old.region (rest_of part.old.words from 128)) }
+    ensures none_cut { OnErr result (part.new ≡ part.old) }
+{
+    part.is_small();
+    let mut slices = Vec::with_capacity(alloc, PARTITIONS as usize)?;
+    let mut next = from;
+    for _cut in 0..PARTITIONS {
+        slices.push_reserved(part.split_chunk(r, next, 1));
+        next += 1;
     }
     Ok(slices)
 }
@@ -155,9 +184,9 @@ where
         }
     }
 
-    /// The same on 128 slices that the caller brings, of a word each at least, which are the table's from then on. It
-    /// waits for nobody and asks nothing of any area, so later calls may bring whichever area. If there is no memory, the
-    /// slices are dropped.
+    /// The same on 128 slices that the caller brings (`cut_slices` cuts them), of a word each at least, which are the
+    /// table's from then on. It waits for nobody and asks nothing of any area, so later calls may bring whichever area.
+    /// If there is no memory, the slices are dropped.
     pub fn on_slices(
         alloc: Global,
         r: &Region,

@@ -1,6 +1,6 @@
 //! The turns that a call of the table takes, each one event of one partition.
 
-ghost use Rattle.std.specs.Prelude.{◌≡◌, ℕ, ◌/◌, ◌<◌, ◌≤◌, true, false, List, length, is_some, IfNone, IfSome};
+ghost use Rattle.std.specs.Prelude.{◌≡◌, ℕ, ◌/◌, ◌<◌, ◌≤◌, true, false, List, length, is_some, IfErr, IfNone, IfOk, IfSome};
 ghost use Rattle.std.specs.FinMap as fin;
 ghost use Rattle.lock_book.specs.Shown.{number_of, seen_of, mine_of};
 ghost use Rattle.dsa_area.specs.Sizes.{chunk_size};
@@ -10,7 +10,7 @@ ghost use Rattle.dshash_core.specs.Outcome.{AlwaysRemoves, HandsOut};
 ghost use Rattle.dshash_parts.specs.Asked.{outcome_of};
 ghost use Rattle.dshash_parts.specs.Tables.{IsTable, Turned, map_at, size_at, Belongs};
 ghost use Rattle.dshash_parts.specs.declared.histories.PartitionCalls.TheVariants.{Call, Looks, Moves};
-ghost use Rattle.dshash_parts.specs.declared.histories.PartitionReplies.TheVariants.{HasSize, Made, Moved};
+ghost use Rattle.dshash_parts.specs.declared.histories.PartitionReplies.TheVariants.{Crowded, HasSize, Made, Moved};
 
 use crate::asks::{TableAnswer, TableAsk};
 use crate::key::Key;
@@ -52,6 +52,47 @@ where
     let ask = TableAsk::Make(hash, Key::of(key), *call, spare);
     match table.shelf.call(rt, r, pass, number as usize, ask) {
         TableAnswer::Came(out) => out,
+        _ => unreachable!(),
+    }
+}
+
+/// The same, unless it would hang the key into a chain that has `longest` items already: then the spare item comes back.
+#[inline(always)]
+pub(crate) fn try_within<R: Wait, O: CellObject + Send>(
+    rt: &R,
+    table: &Dshash<O>,
+    r: &Region,
+    pass: &mut DsPass<O>,
+    number: u32,
+    hash: u32,
+    key: &[u64],
+    call: &O::Call,
+    spare: Option<Chunk>,
+    longest: u32,
+) -> Result<CoreOut<O>, Option<Chunk>>
+where
+    O::State: Send,
+    O::Call: Send,
+    O::Reply: Send,
+    requires table { IsTable r.now table.now }
+    requires own { Belongs table.now pass.old }
+    requires number { number < 128 }
+    requires hash { (hash ≡ hash_of key.now) × (partition_of hash ≡ number) }
+    requires key { length key.now ≡ table.now.key_words }
+    requires may { O.may (number_of pass.old) key.now call.now }
+    requires spare { IfSome spare (λ c. (c.part.region ≡ r.now) × (c.bytes ≡ chunk_size table.now.item_bytes)) }
+    ensures own { Belongs table.now pass.new }
+    ensures caller { number_of pass.new ≡ number_of pass.old }
+    ensures grows { (k : ℕ) → k < 128 → size_at (seen_of pass.old) k ≤ size_at (seen_of pass.new) k }
+    ensures event { IfOk result (λ out. Turned O.stepped pass.old pass.new number (Call key.now call.now (is_some spare)) (outcome_of out)) }
+    ensures handed { IfOk result (HandsOut r.now (chunk_size table.now.item_bytes) spare) }
+    ensures crowded { IfErr result (λ back. Turned O.stepped pass.old pass.new number (Call key.now call.now (is_some spare)) (Crowded longest (is_some back))) }
+    ensures back { IfErr result (λ back. back ≡ spare) }
+{
+    let ask = TableAsk::MakeWithin(longest, hash, Key::of(key), *call, spare);
+    match table.shelf.call(rt, r, pass, number as usize, ask) {
+        TableAnswer::Came(out) => Ok(out),
+        TableAnswer::Long(_, spare) => Err(spare),
         _ => unreachable!(),
     }
 }
