@@ -1,9 +1,8 @@
 pub mod Putting
 pub mod Growing
-pub mod Asking
-pub mod Opened
 pub mod Seats
 pub mod Listed
 pub mod Standing
 pub mod Drains
 pub mod Paired
+pub mod Ended

@@ -19,7 +19,7 @@ use Rattle.dshash_core.proofs.Keys.{is_packed}
 use Rattle.dshash_parts.specs.Replays.{calls_of_key, made_of}
 use Rattle.dshash_parts.specs.States.{fresh}
 use Rattle.dshash_parts.specs.declared.histories.PartitionCalls.TheVariants.{Call, Looks, Moves, Lists}
-use Rattle.dshash_parts.specs.declared.histories.PartitionReplies.TheVariants.{Made, LacksItem, HasToGrow, HasSize, Moved, Listed}
+use Rattle.dshash_parts.specs.declared.histories.PartitionReplies.TheVariants.{Made, LacksItem, HasToGrow, Crowded, HasSize, Moved, Listed}
 use Rattle.lock_book.specs.History.{calls_by, last_of}
 use Rattle.par_model.specs.declared.state.AggState.{AggState}
 use Rattle.agg_table.specs.Calls.{AggCall, AggEntry, AggReply, Group, IsKeyed, called, calls_at, done_in, done_of, partition_at}
@@ -65,6 +65,7 @@ one_call key (Call k state spare) (Made reply unused freed) = by (eq_by_cmp (sli
     by false = refl
 one_call key (Call k state spare) LacksItem = refl
 one_call key (Call k state spare) (HasToGrow size back) = refl
+one_call key (Call k state spare) (Crowded longest back) = refl
 one_call key (Call k state spare) (HasSize size keys) = refl
 one_call key (Call k state spare) (Moved left) = refl
 one_call key (Call k state spare) (Listed entries) = refl

@@ -1,10 +1,10 @@
--- What a participant made of some groups: the calls of the table that it made, and those that found no space.
-use Rattle.std.specs.Prelude.{◌≡◌, ◌≤◌, ◌+◌, ◌++◌, ◌==◌, ℕ, List, [], ◌∷◌, All, Any, filter, length, map}
+-- What a participant made of some groups: the calls of the table that it made, and those that found no room.
+use Rattle.std.specs.Prelude.{◌≡◌, ◌≤◌, ◌+◌, ◌++◌, ◌==◌, ◌⊎◌, ℕ, List, [], ◌∷◌, All, Any, filter, length, map}
 use Rattle.std.specs.List.Sorted.{IsPermutation}
 use Rattle.dshash_core.specs.Cells.{partition_of}
 use Rattle.dshash_core.specs.Key.{hash_of, packed_key}
 use Rattle.dshash_parts.specs.Done as done
-use Rattle.dshash_parts.specs.Done.{IsMissing, PageEntry, lacks}
+use Rattle.dshash_parts.specs.Done.{HaveCauses, IsMissing, IsTurnedAway, PageEntry, lacks}
 use Rattle.dshash_parts.specs.States.{PartitionState}
 use Rattle.dshash_parts.specs.declared.histories.PartitionCalls.{PartitionCalls}
 use Rattle.dshash_parts.specs.declared.histories.PartitionReplies.{PartitionReplies}
@@ -64,6 +64,14 @@ calls_at number groups = map called (filter (λ (g : Group). partition_at g == n
 abbrev pub WasMissed : (ℕ → List AggEntry) → Group → Type 0
 WasMissed turns g = Any (λ (e : AggEntry). IsMissing (packed_key g.0) g.1 e.call e.reply) (turns (partition_at g))
 
+-- a chain with so many items takes no new key
+abbrev pub longest_chain : ℕ
+longest_chain = 64
+
+-- some entry has the call of this group, which was turned away for its key's chain
+abbrev pub WasTurnedAway : (ℕ → List AggEntry) → Group → Type 0
+WasTurnedAway turns g = Any (λ (e : AggEntry). IsTurnedAway longest_chain (packed_key g.0) g.1 e.call e.reply) (turns (partition_at g))
+
 -- a group whose key can be packed
 pub record IsKeyed (g : Group) : Type 0 where
   pub bytes : AllBytes g.0
@@ -76,19 +84,21 @@ pub record IsPut (u v : Use) (g : Group) : Type 0 where
   pub kept : (number : ℕ) → (more : List AggEntry) × (v.turns number ≡ u.turns number ++ more)
   pub refused : lacks u.pages ≤ lacks v.pages
 
--- one group was left: no call was made, an entry says that this one was not, and a request for pages was refused
+-- one group was left: no call was made, an entry says that this one was not, and a request for pages was refused or the
+-- group's chain was too long
 pub record IsLeft (u v : Use) (g : Group) : Type 0 where
   pub done : (number : ℕ) → done_in (v.turns number) ≡ done_in (u.turns number)
   pub kept : (number : ℕ) → (more : List AggEntry) × (v.turns number ≡ u.turns number ++ more)
   pub missed : WasMissed v.turns g
-  pub refused : lacks u.pages + 1 ≤ lacks v.pages
+  pub refused : lacks u.pages ≤ lacks v.pages
+  pub cause : (lacks u.pages + 1 ≤ lacks v.pages) ⊎ WasTurnedAway v.turns g
 
 -- What a participant did with some groups. Each of them was put in or left. At each partition its calls that were made
 -- are those of the groups that it put in, in order, and no others. Of those that it left the calls were not made, and
--- for each of them a request for pages was refused
+-- for each of them a request for pages was refused, or its chain was too long
 pub record HasPut (groups : List Group) (u : Use) (put left : List Group) : Type 0 where
   pub all : IsPermutation groups (put ++ left)
   pub keyed : All IsKeyed put
   pub done : (number : ℕ) → done_in (u.turns number) ≡ calls_at number put
   pub missed : All (WasMissed u.turns) left
-  pub few : length left ≤ lacks u.pages
+  pub causes : HaveCauses (WasTurnedAway u.turns) left (lacks u.pages)

@@ -1,15 +1,15 @@
 -- What a contract sees of the table of a query's groups, and of a participant's passes.
-use Rattle.std.specs.Prelude.{◌≡◌, ℕ, List, [], Option, Some, None, length}
+use Rattle.std.specs.Prelude.{◌≡◌, ℕ, ◌+◌, List, [], Option, Some, None, length}
 use mathlib.Core.Option.{some}
 use lib.ListN.{get_elem?}
 use Rattle.atomic_table.specs.Seated.{TableId}
 use Rattle.lock_book.specs.History.{StartsWith}
 use Rattle.lock_book.specs.Shown.{mine_of, number_of, seen_of}
 use Rattle.size_classes.specs.Classes.{IsClass}
-use Rattle.dsa_area.specs.Shown.{IsArea, Belongs as AreaBelongs, callers_of as area_callers, number_of as area_number, pages_mine, pages_seen as pages_shown, pool_mine, pool_seen}
+use Rattle.free_pages.specs.Area.{area_size}
+use Rattle.dsa_area.specs.Shown.{IsArea, IsFresh, Belongs as AreaBelongs, callers_of as area_callers, number_of as area_number, pages_mine, pages_seen as pages_shown, pool_mine, pool_seen}
 use Rattle.dshash_parts.specs.Tables.{IsHome, IsTable, Belongs as TableBelongs, callers_of as table_callers, key_words_of}
 use Rattle.agg_table.specs.Calls.{Use}
-use Rattle.dshash_parts.specs.Done.{lacks}
 use Rattle.agg_table.specs.declared.part.HashPart.{HashPart}
 use Rattle.agg_table.specs.declared.part.HashSeat.{HashSeat}
 
@@ -33,6 +33,10 @@ pub record IsPart (region : TableId) (p : HashPart) : Type 0 where
   pub keys : key_words_of p.table ≡ 32
   pub callers : area_callers p.area ≡ table_callers p.table
 
+-- the words of a table's chunk: its 128 slices, and then an area of this many pages
+abbrev pub part_size : ℕ → ℕ
+part_size pages = 128 + area_size pages
+
 -- the passes are of this table and its area, and of one participant
 pub record IsSeat (p : HashPart) (s : HashSeat) : Type 0 where
   pub area : AreaBelongs p.area s.area
@@ -49,11 +53,11 @@ pub record Grew (s t : HashSeat) : Type 0 where
   pub pools : (class : ℕ) → IsClass class → StartsWith (pool_mine t.area class) (pool_mine s.area class)
   pub pools_seen : (class : ℕ) → IsClass class → StartsWith (pool_seen t.area class) (pool_seen s.area class)
 
--- the participant has made no turn at the table, and none of its requests for pages was refused
+-- the participant has made no turn at the table, and has asked the area for nothing and seen nothing of it
 pub record IsUnusedBy (number : ℕ) (s : HashSeat) : Type 0 where
   pub number_is : number_of s.table ≡ number
   pub turns : (number : ℕ) → mine_of s.table number ≡ []
-  pub pages : lacks (pages_mine s.area) ≡ 0
+  pub area : IsFresh s.area
 
 -- a participant has passes exactly if there is a table, and it has not used them
 abbrev pub IsHashSeat : TableId → ℕ → Option HashPart → Option HashSeat → Type 0

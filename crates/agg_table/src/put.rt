@@ -14,6 +14,9 @@ use partial_agg::GroupKey;
 use region_words::Region;
 use std::sync::Wait;
 
+/// A chain with so many items takes no new key: whoever chooses the keys can't make a longer one.
+const LONGEST_CHAIN: u32 = 64;
+
 /// A key's bytes as the words of a packed key.
 fn words_of(bytes: &[u8]) -> [u64; 32]
     requires { length bytes.now ≤ LONGEST_KEY }
@@ -28,8 +31,8 @@ fn words_of(bytes: &[u8]) -> [u64; 32]
 
 impl HashPart {
     /// Combines a group's state into the cell of its key, by one call of the table. False if the area has no room for a
-    /// new cell, or for the table to grow: the group is then left to the caller. It takes no memory, and may wait for
-    /// the locks of the table and of the area, one after another.
+    /// new cell, or for the table to grow, or if the chain of a new cell has 64 items already: the group is then left to
+    /// the caller. It takes no memory, and may wait for the locks of the table and of the area, one after another.
     pub fn put<R: Wait>(
         &self,
         rt: &R,
@@ -45,7 +48,7 @@ impl HashPart {
         ensures put { MatchBool result (IsPut (use_of seat.old) (use_of seat.new) (key.now, state.now)) (IsLeft (use_of seat.old) (use_of seat.new) (key.now, state.now)) }
     {
         let words = words_of(key.bytes());
-        match self.table.call(
+        match self.table.call_within(
             rt,
             r,
             &self.area,
@@ -53,6 +56,7 @@ impl HashPart {
             &mut seat.area,
             &words,
             state,
+            LONGEST_CHAIN,
         ) {
             Ok(()) => true,
             Err(_) => false,

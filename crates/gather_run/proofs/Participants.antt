@@ -1,5 +1,5 @@
 -- What the leader and the workers did with a table of groups, put together.
-use Rattle.std.proofs.Common.{◌≡◌, ◌<◌, ◌≤◌, ◌+◌, ◌*◌, ◌^◌, ◌++◌, ℕ, zero, suc, List, [], ◌∷◌, length, drop, fold, slice_get, map as map_list, All, Any, MatchOption, Option, Some, None, refl, ap, sym, subst, ◌∙◌, true, length-append}
+use Rattle.std.proofs.Common.{◌≡◌, ◌<◌, ◌≤◌, ◌+◌, ◌*◌, ◌^◌, ◌++◌, ℕ, zero, suc, List, [], ◌∷◌, length, drop, fold, slice_get, map as map_list, All, Any, MatchOption, Option, Some, None, refl, ap, sym, subst, ◌∙◌, true, arith, length-append}
 use Rattle.std.specs.FinMap as map
 use Rattle.std.specs.List.{AllZip, flat_map}
 use Rattle.std.specs.List.Sorted.{IsPermutation}
@@ -7,8 +7,9 @@ use Rattle.std.proofs.lemmas.List.{length-map}
 use Rattle.std.proofs.lemmas.List.Concat.{flat_map-append}
 use Rattle.std.proofs.lemmas.List.Elements.{All-head, All-nil, All-tail, All-weaker}
 use Rattle.agg_cell.specs.Called.{Seen}
-use Rattle.agg_table.specs.Calls.{AggEntry, HasPut, IsKeyed, Use, WasMissed, calls_at, done_in, partition_at}
-use Rattle.dshash_parts.specs.Done.{IsMissing, lacks}
+use Rattle.agg_table.specs.Calls.{AggEntry, HasPut, IsKeyed, Use, WasMissed, WasTurnedAway, calls_at, done_in, longest_chain, partition_at}
+use Rattle.dshash_parts.specs.Done.{IsMissing, IsTurnedAway, lacks}
+use Rattle.dshash_parts.proofs.Causes.{causes_kept}
 use Rattle.agg_table.specs.Drained.{AddsTable, HoldsAll}
 use Rattle.agg_table.proofs.Putting.{has_put_nothing}
 use Rattle.dshash_core.specs.Key.{packed_key}
@@ -60,7 +61,9 @@ same_put groups put left u v turns pages h = record {
   keyed = h.keyed;
   done = λ i. ap done_in (turns i) ∙ h.done i;
   missed = All-weaker (WasMissed u.turns) (WasMissed v.turns) (λ g m. subst (Any (λ (e : AggEntry). IsMissing (packed_key g.0) g.1 e.call e.reply)) (sym (turns (partition_at g))) m) left h.missed;
-  few = subst (λ ps. length left ≤ lacks ps) (sym pages) h.few;
+  causes = causes_kept (WasTurnedAway u.turns) (WasTurnedAway v.turns)
+      (λ g m. subst (Any (λ (e : AggEntry). IsTurnedAway longest_chain (packed_key g.0) g.1 e.call e.reply)) (sym (turns (partition_at g))) m)
+      left (lacks u.pages) (lacks v.pages) h.causes (let same : lacks v.pages ≡ lacks u.pages = ap lacks pages in omega (arith, same));
 }
 
 module _ (plan : Plan) (records : Table) where

@@ -41,7 +41,7 @@ pub record AreBatchGroups (plan : Plan) (records : Table) (blocks : List ℕ) (g
 -- The blocks that a participant drew lie in batches, in the order in which it drew them. It put each group of each
 -- batch into the table, or left it. At each partition its calls that were made are those of the groups that it put in, in
 -- order, and no others. For each group that it left the histories have one of its calls, with that key and that state,
--- which was not made, and one of its requests for pages was refused
+-- which was not made; and one of its requests for pages was refused, or that call found 64 keys in the key's bucket
 pub record SharedItsBlocks (plan : Plan) (records : Table) (draws : List ℕ) (u : Use) : Type 0 where
   pub batches : List (List ℕ)
   pub cut : flat batches ≡ draws

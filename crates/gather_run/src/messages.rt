@@ -77,6 +77,20 @@ fn take_tuple(
     }
 }
 
+/// The same, and it wakes the worker if that sleeps until there is room for its next tuple.
+fn take_next(r: &Region, tuples: &mut Receiver, state: &mut AggState, groups: &mut GroupMap) -> Look
+    requires here { tuples.old.region ≡ r.now }
+    requires stays { tuples.old.end.gone ≡ false }
+    ensures region { tuples.new.region ≡ tuples.old.region }
+    ensures ring { tuples.new.end.ring ≡ tuples.old.end.ring }
+    ensures stays { tuples.new.end.gone ≡ false }
+    ensures look { LooksOnce tuples.old.end tuples.new.end groups.old groups.new result }
+{
+    let look = take_tuple(r, tuples, state, groups);
+    tuples.wake_sender(r);
+    look
+}
+
 /// Takes the tuples that are there, up to as many as the queue holds, all through one state.
 fn take_tuples(r: &Region, tuples: &mut Receiver, groups: &mut GroupMap) -> Look
     requires here { tuples.old.region ≡ r.now }
@@ -89,7 +103,7 @@ fn take_tuples(r: &Region, tuples: &mut Receiver, groups: &mut GroupMap) -> Look
     let mut state = empty();
     let mut took = false;
     for _ in 0..MOST_AT_ONCE {
-        match take_tuple(r, tuples, &mut state, groups) {
+        match take_next(r, tuples, &mut state, groups) {
             Look::More { took: true } => took = true,
             Look::More { took: false } => return Look::More { took },
             Look::Over => return Look::Over,

@@ -24,8 +24,9 @@ use Rattle.join_pairs.specs.Gathered.{IsCovered}
 use Rattle.join_pairs.specs.Join.{AllAccepted, IsRow, keyed}
 use Rattle.join_pairs.specs.declared.chains.Link.{Link}
 use Rattle.row_blocks.proofs.Elements.{any_left}
-use Rattle.hash_join.specs.Filled.{HasPut, RowEntry, WasMissed, calls_at, done_in, key_of, partition_at}
-use Rattle.dshash_parts.specs.Done.{IsMissing, PageEntry}
+use Rattle.hash_join.specs.Filled.{HasPut, RowEntry, WasMissed, WasTurnedAway, calls_at, done_in, key_of, longest_chain, partition_at}
+use Rattle.dshash_parts.specs.Done.{IsMissing, IsTurnedAway, PageEntry, lacks}
+use Rattle.dshash_parts.proofs.Causes.{causes_kept}
 use Rattle.hash_join.specs.Home.{IsClosed, IsHome}
 use Rattle.hash_join.specs.Stores.{HasFilled}
 use Rattle.hash_join.specs.Used.{IsShared, WerePut}
@@ -92,7 +93,12 @@ put_moved records column rows mine calls at_pages links spilled same grown h = r
       let g = grown i (partition_low (key_of records column r)) in
       subst (Any (λ (e : RowEntry). IsMissing (key_of records column r) r e.call e.reply)) (sym g.1)
       (any_left (λ (e : RowEntry). IsMissing (key_of records column r) r e.call e.reply) (mine i) g.0 m)) spilled h.missed;
-  few = h.few;
+  causes = causes_kept (WasTurnedAway records column mine) (WasTurnedAway records column calls)
+      (λ r m.
+      let i = partition_at records column r in
+      let g = grown i (partition_low (key_of records column r)) in
+      subst (Any (λ (e : RowEntry). IsTurnedAway longest_chain (key_of records column r) r e.call e.reply)) (sym g.1)
+      (any_left (λ (e : RowEntry). IsTurnedAway longest_chain (key_of records column r) r e.call e.reply) (mine i) g.0 m)) spilled (lacks at_pages) (lacks at_pages) h.causes (omega arith);
 }
 
 module _ (records : Table) (column : ℕ) (s : Store) (c : Claims) (fs : List Filler) (h : Home) (home : IsHome records column s c fs h) where

@@ -11,3 +11,4 @@ pub mod Parts
 pub mod Putting
 pub mod Rounds
 pub mod Seen
+pub mod Ended

@@ -14,7 +14,7 @@ use Rattle.dshash_parts.specs.Replays.{calls_of_key, made_of}
 use Rattle.dshash_parts.specs.declared.histories.PartitionCalls.{PartitionCalls}
 use Rattle.dshash_parts.specs.declared.histories.PartitionCalls.TheVariants.{Call, Looks, Moves, Lists}
 use Rattle.dshash_parts.specs.declared.histories.PartitionReplies.{PartitionReplies}
-use Rattle.dshash_parts.specs.declared.histories.PartitionReplies.TheVariants.{Made, LacksItem, HasToGrow, HasSize, Moved, Listed}
+use Rattle.dshash_parts.specs.declared.histories.PartitionReplies.TheVariants.{Made, LacksItem, HasToGrow, Crowded, HasSize, Moved, Listed}
 use Rattle.hash_join.specs.Filled.{RowEntry, done_in, done_of}
 use Rattle.join_pairs.specs.declared.chains.Link.{Link}
 use Rattle.join_pairs.proofs.Exchange.{both, flat_map-same}
@@ -110,6 +110,7 @@ key_one key (Call k row spare) (Made before unused freed) = by (eq_by_cmp (slice
     by false = refl
 key_one key (Call k row spare) LacksItem = refl
 key_one key (Call k row spare) (HasToGrow size back) = refl
+key_one key (Call k row spare) (Crowded longest back) = refl
 key_one key (Call k row spare) (HasSize size keys) = refl
 key_one key (Call k row spare) (Moved left) = refl
 key_one key (Call k row spare) (Listed entries) = refl

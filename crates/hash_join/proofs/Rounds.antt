@@ -1,5 +1,5 @@
 -- The participants with their tokens, from the beginning of a round to its end.
-use Rattle.std.proofs.Common.{◌≡◌, ◌≤◌, ◌+◌, ◌++◌, ℕ, zero, suc, false, List, [], ◌∷◌, All, append-nil, append_assoc, get_or, length, map, set, refl, ap, sym, subst, ◌∙◌, arith}
+use Rattle.std.proofs.Common.{◌≡◌, ◌≤◌, ◌+◌, ◌++◌, ℕ, zero, suc, false, List, [], ◌∷◌, All, append-nil, append_assoc, get_or, length, map, refl, ap, sym, subst, ◌∙◌, arith}
 use mathlib.Core.Option.{some, some-injective}
 use lib.ListN.{get_elem?}
 use Rattle.std.specs.List.{AllByRecursion}
@@ -7,8 +7,6 @@ use Rattle.std.proofs.lemmas.List.Elements.{All-from_recursion, recursion_from_A
 use Rattle.std.proofs.lemmas.List.{map-append}
 use Rattle.lock_book.specs.Shown.{mine_of, number_of}
 use Rattle.dsa_area.specs.Shown as area
-use Rattle.dsa_area.specs.declared.area.Area.{Area}
-use Rattle.dsa_area.specs.declared.area.AreaPass.{AreaPass}
 use Rattle.dshash_parts.specs.Tables as table
 use Rattle.scan_claim.specs.Shown as claim
 use Rattle.scan_claim.specs.declared.claims.Claims.{Claims}
@@ -35,24 +33,6 @@ get_or_at : {X : Type 0} (xs : List X) (k : ℕ) (d x : X) → get_elem? xs k �
 get_or_at [] k d x e = absurd (cc)
 get_or_at (y ∷ ys) zero d x e = some-injective y x e
 get_or_at (y ∷ ys) (suc k) d x e = get_or_at ys k d x e
-
--- ---- the passes of an area, of which the first was used
-
-pub areas_kept : (a : Area) (ps : List AreaPass) (p : AreaPass) → area.AreAll a ps → area.Belongs a p → area.number_of p ≡ 0 → area.AreAll a (set ps 0 p)
-areas_kept a [] p all own first = all
-areas_kept a (q ∷ qs) p all own first = record { count = all.count; each = each; numbers = numbers }
-  where
-    each : (k : ℕ) (x : AreaPass) → get_elem? (p ∷ qs) k ≡ some x → area.Belongs a x
-    each zero x e = subst (area.Belongs a) (some-injective p x e) own
-    each (suc k) x e = all.each (suc k) x e
-
-    numbers : (k : ℕ) (x : AreaPass) → get_elem? (p ∷ qs) k ≡ some x → area.number_of x ≡ k
-    numbers zero x e = ap area.number_of (sym (some-injective p x e)) ∙ first
-    numbers (suc k) x e = all.numbers (suc k) x e
-
-pub first_pass : (a : Area) (ps : List AreaPass) (p : AreaPass) → area.AreAll a ps → 1 ≤ area.callers_of a → p ≡ get_or ps 0 p → area.Belongs a p × (area.number_of p ≡ 0)
-first_pass a [] p all low is = absurd (let none : 0 ≡ area.callers_of a = all.count in omega (arith, none, low))
-first_pass a (q ∷ qs) p all low is = subst (λ (z : AreaPass). area.Belongs a z × (area.number_of z ≡ 0)) (sym is) (all.each 0 q refl, all.numbers 0 q refl)
 
 -- ---- tokens that are put together
 

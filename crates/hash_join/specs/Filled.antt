@@ -1,12 +1,12 @@
 -- What a participant made of the rows of its blocks: the calls of the table that it made, and those that found no
--- space.
+-- room.
 use Rattle.std.specs.Prelude.{◌≡◌, ◌<◌, ◌≤◌, ◌==◌, ◌++◌, ℕ, List, All, Any, filter, length, map}
 use Rattle.std.specs.List.Sorted.{IsPermutation}
 use Rattle.csv_rows.specs.Records.{field_of}
 use Rattle.dshash_core.specs.Cells.{partition_of}
 use Rattle.dshash_core.specs.Key.{hash_of, packed_key}
 use Rattle.dshash_parts.specs.Done as done
-use Rattle.dshash_parts.specs.Done.{IsMissing, PageEntry, lacks}
+use Rattle.dshash_parts.specs.Done.{HaveCauses, IsMissing, IsTurnedAway, PageEntry, lacks}
 use Rattle.dshash_parts.specs.States.{PartitionState}
 use Rattle.dshash_parts.specs.declared.histories.PartitionCalls.{PartitionCalls}
 use Rattle.dshash_parts.specs.declared.histories.PartitionReplies.{PartitionReplies}
@@ -35,6 +35,10 @@ done_in entries = done.done_in made_call entries
 
 -- ---- rows
 
+-- a chain with so many items takes no new key
+abbrev pub longest_chain : ℕ
+longest_chain = 64
+
 module _ (records : Table) (column : ℕ) where
   -- the key of a row in the table
   abbrev pub key_of : ℕ → List ℕ
@@ -52,11 +56,16 @@ module _ (records : Table) (column : ℕ) where
   abbrev pub WasMissed : (ℕ → List RowEntry) → ℕ → Type 0
   WasMissed calls row = Any (λ (e : RowEntry). IsMissing (key_of row) row e.call e.reply) (calls (partition_at row))
 
+  -- some calls have one of this row that was turned away for its key's chain
+  abbrev pub WasTurnedAway : (ℕ → List RowEntry) → ℕ → Type 0
+  WasTurnedAway calls row = Any (λ (e : RowEntry). IsTurnedAway longest_chain (key_of row) row e.call e.reply) (calls (partition_at row))
+
   -- What a participant did with some rows. Each of them whose field is not empty is in `links` or in `spilled`. At each
   -- partition its calls that were made are those of `links`, in order, each with the row's key and the row, and no
-  -- others. Those of `spilled` were not made, and for each of them a request for pages was refused
+  -- others. Those of `spilled` were not made, and for each of them a request for pages was refused, or its chain was too
+  -- long
   pub record HasPut (rows : List ℕ) (calls : ℕ → List RowEntry) (at_pages : List PageEntry) (links : List Link) (spilled : List ℕ) : Type 0 where
     pub all : IsPermutation (keyed records column rows) (map (λ (l : Link). l.row) links ++ spilled)
     pub done : (number : ℕ) → number < 128 → done_in (calls number) ≡ calls_at number links
     pub missed : All (WasMissed calls) spilled
-    pub few : length spilled ≤ lacks at_pages
+    pub causes : HaveCauses (WasTurnedAway calls) spilled (lacks at_pages)

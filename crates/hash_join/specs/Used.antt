@@ -19,7 +19,7 @@ use Rattle.join_pairs.specs.Chains.{last_step}
 use Rattle.hash_join.specs.declared.Joined.{Joined}
 use Rattle.join_pairs.specs.declared.chains.Link.{Link}
 
--- some rows were put into the table: HasPut, whichever of them found no space
+-- some rows were put into the table: HasPut, whichever of them found no room
 pub record WerePut (records : Table) (column : ℕ) (rows : List ℕ) (calls : ℕ → List RowEntry) (at_pages : List PageEntry) : Type 0 where
   pub links : List Link
   pub spilled : List ℕ

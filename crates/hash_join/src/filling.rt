@@ -22,6 +22,9 @@ use std::alloc::{AllocError, Global};
 use std::sync::Wait;
 use std::sync::atomic::{AtomicBool, Ordering};
 
+/// A chain with so many items takes no new key: whoever chooses the keys can't make a longer one.
+const LONGEST_CHAIN: u32 = 64;
+
 /// A participant's tokens, and what came of the rows of its blocks.
 #[derive(Drop)]
 pub(crate) struct Filler {
@@ -33,7 +36,7 @@ pub(crate) struct Filler {
     pub(crate) claim: ClaimSeat,
     /// The rows that the table took, in order, each with the row before.
     pub(crate) links: Vec<Link>,
-    /// The rows for which the table found no space.
+    /// The rows for which the table found no room.
     pub(crate) spilled: Vec<u64>,
     /// There was no memory for a row of this participant, or of another that stopped before.
     pub(crate) lacks_memory: bool,
@@ -65,7 +68,7 @@ fn put_row<R: Wait>(
     let Some(key) = pack_key(field) else {
         unreachable!()
     };
-    let put = store.table.call(
+    let put = store.table.call_within(
         rt,
         &store.region,
         &store.area,
@@ -73,6 +76,7 @@ fn put_row<R: Wait>(
         &mut filler.area,
         &key,
         &row,
+        LONGEST_CHAIN,
     );
     match put {
         Ok(before) => match filler.links.push(Link { row, before }) {

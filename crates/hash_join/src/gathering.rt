@@ -63,7 +63,7 @@ pub(crate) struct Home {
     pub(crate) claims: Vec<ClaimSeat>,
     /// The rows that the table took of each, with the row before.
     pub(crate) links: Vec<Vec<Link>>,
-    /// The rows of each for which the table found no space.
+    /// The rows of each for which the table found no room.
     pub(crate) spilled: Vec<Vec<u64>>,
 }
 
@@ -107,12 +107,7 @@ fn fillers(alloc: Global, passes: Passes, seats: Vec<ClaimSeat>) -> Result<Vec<F
 }
 
 /// A table for this many participants, and each with its tokens.
-fn open_round<R: Wait>(
-    rt: &R,
-    alloc: Global,
-    rows: &RowStore,
-    callers: u32,
-) -> Result<Round, AllocError>
+fn open_round(alloc: Global, rows: &RowStore, callers: u32) -> Result<Round, AllocError>
     requires callers { 1 ≤ callers }
     ensures store { IfOk result (λ r. IsStore r.store) }
     ensures blocks { IfOk result (λ r. AreBlocks rows.now (blocks_of r.claims)) }
@@ -120,7 +115,7 @@ fn open_round<R: Wait>(
     ensures count { IfOk result (λ r. length r.fillers.items ≡ callers) }
     ensures new { IfOk result (λ r. AreNew r.store r.claims r.fillers.items) }
 {
-    let (store, passes) = open_store(rt, alloc, callers)?;
+    let (store, passes) = open_store(alloc, callers)?;
     let (claims, seats) = Claims::new(alloc, count_blocks(rows), callers)?;
     let fillers = fillers(alloc, passes, seats)?;
     Ok(Round {
@@ -287,7 +282,7 @@ pub(crate) fn gather_rows<R: Threads + Wait + Sync>(
         store,
         claims,
         mut fillers,
-    } = open_round(rt, alloc, rows, callers)?;
+    } = open_round(alloc, rows, callers)?;
     fill_all(rt, &store, rows, column, &claims, &mut fillers);
     let home = bring_home(alloc, fillers)?;
     end_round(rt, alloc, rows, column, store, claims, home)

@@ -3,7 +3,7 @@
 //!
 //! A row is known by its number. The table has, under each key, the last row that came with it; a call puts in a row
 //! and is given the row before, which is the row's link. So the links make a chain of all rows of a key, no matter
-//! which participant put them in (`specs/Law.antt`). Rows for which the table finds no space stay with their
+//! which participant put them in (`specs/Law.antt`). Rows for which the table finds no room stay with their
 //! participant, and the leader adds them to the chains afterwards. Then nothing is written any more, and the
 //! participants follow the chains of the right rows' keys. The pairs are sorted at last, so they are in order no matter
 //! which participant found them.

@@ -4,16 +4,16 @@ ghost use Rattle.std.specs.Prelude.{◌≡◌, ◌≤◌, ◌^◌, ℕ, [], IfOk
 ghost use mathlib.Core.Option.{some};
 ghost use lib.ListN.{get_elem?};
 ghost use Rattle.lock_book.specs.Shown.{mine_of};
-ghost use Rattle.dsa_area.specs.Shown.{AreAll as AreAllOfArea, IsArea, callers_of as area_callers};
+ghost use Rattle.dsa_area.specs.Shown.{AreAll as AreAllOfArea, callers_of as area_callers};
 ghost use Rattle.dshash_parts.specs.Tables.{AreAll, callers_of};
 ghost use Rattle.hash_join.specs.Stores.{IsStore};
 
 use dsa_area::{Area, AreaPass, area_words};
-use dshash_parts::{DsPass, Dshash};
+use dshash_core::PARTITIONS;
+use dshash_parts::{DsPass, Dshash, cut_slices};
 use join_pairs::LastRow;
 use region_words::Region;
 use std::alloc::{AllocError, Global};
-use std::sync::Wait;
 
 /// The pages of the area.
 pub(crate) const PAGES: u32 = 2048;
@@ -24,7 +24,7 @@ pub(crate) const KEY_WORDS: u32 = 32;
 /// A table, with the area of its items. Threads share it by reference.
 #[derive(Drop)]
 pub(crate) struct Store {
-    /// The words of the area.
+    /// The words of the slices with which the table began, and then of the area.
     pub(crate) region: Region,
     /// Where the table's items come from.
     pub(crate) area: Area,
@@ -41,28 +41,13 @@ pub(crate) struct Passes {
     pub(crate) tables: Vec<DsPass<LastRow>>,
 }
 
-/// An area in its own region, and the passes of this many callers.
-#[tactic(auto, using(word_map::proofs::Maps::answers, std::proofs::lemmas::Bool::Decides::nat_tests))]
-fn open_area(alloc: Global, callers: u32) -> Result<(Region, Area, Vec<AreaPass>), AllocError>
-    requires callers { 1 ≤ callers }
-    ensures area { IfOk result (λ a. IsArea a.0 a.1) }
-    ensures callers { IfOk result (λ a. area_callers a.1 ≡ callers) }
-    ensures passes { IfOk result (λ a. AreAllOfArea a.1 a.2.items) }
-{
-    let words = area_words(PAGES);
-    let (region, mut part) = Region::new(alloc, words as usize + 1)?;
-    let chunk = part.split_chunk(&region, 1, words);
-    let (area, passes) = Area::new(alloc, &region, chunk, PAGES, callers)?;
-    Ok((region, area, passes))
-}
+/// The first word of the area: word 0 is no place, and the slices come next.
+const AREA_AT: u64 = 1 + PARTITIONS as u64;
 
-/// An empty table for this many callers. Its area was just opened and has room for its slices, so a refusal means that
-/// there is no memory.
-pub(crate) fn open_store<R: Wait>(
-    rt: &R,
-    alloc: Global,
-    callers: u32,
-) -> Result<(Store, Passes), AllocError>
+/// An empty table for this many callers, with its area, in one region. The table's slices are cut off before the area
+/// gets the rest, so the area is asked for nothing, and there is no table only if there was no memory.
+#[tactic(auto, using(word_map::proofs::Maps::answers, std::proofs::lemmas::Bool::Decides::nat_tests))]
+pub(crate) fn open_store(alloc: Global, callers: u32) -> Result<(Store, Passes), AllocError>
     requires callers { 1 ≤ callers }
     ensures store { IfOk result (λ s. IsStore s.0) }
     ensures callers { IfOk result (λ s. (area_callers s.0.area ≡ callers) × (callers_of s.0.table ≡ callers)) }
@@ -70,17 +55,16 @@ pub(crate) fn open_store<R: Wait>(
     ensures tables { IfOk result (λ s. AreAll s.0.table s.1.tables.items) }
     ensures new { IfOk result (λ s. (n : ℕ) (p : _) → get_elem? s.1.tables.items n ≡ some p → (number : ℕ) → mine_of p number ≡ []) }
 {
-    let (region, area, mut areas) = open_area(alloc, callers)?;
-    let pass = &mut areas[0];
-    match Dshash::new(rt, alloc, &region, &area, pass, KEY_WORDS, callers) {
-        Ok((table, tables)) => {
-            let store = Store {
-                region,
-                area,
-                table,
-            };
-            Ok((store, Passes { areas, tables }))
-        }
-        Err(_) => Err(AllocError),
-    }
+    let words = area_words(PAGES);
+    let (region, mut part) = Region::new(alloc, (AREA_AT + words) as usize)?;
+    let slices = cut_slices(alloc, &region, &mut part, 1)?;
+    let chunk = part.split_chunk(&region, AREA_AT, words);
+    let (area, areas) = Area::new(alloc, &region, chunk, PAGES, callers)?;
+    let (table, tables) = Dshash::on_slices(alloc, &region, slices, KEY_WORDS, callers)?;
+    let store = Store {
+        region,
+        area,
+        table,
+    };
+    Ok((store, Passes { areas, tables }))
 }

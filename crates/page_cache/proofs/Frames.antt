@@ -12,7 +12,7 @@ use Rattle.dshash_parts.specs.Replays.{calls_of_key, made_of}
 use Rattle.dshash_parts.specs.Tables.{AtPartition}
 use Rattle.dshash_parts.specs.Traces.{AreGifts, Asked, Gave, Got, Missed, NoneMade, Sight, Trace, Turn}
 use Rattle.dshash_parts.specs.declared.histories.PartitionCalls.TheVariants.{Call, Looks, Moves, Lists}
-use Rattle.dshash_parts.specs.declared.histories.PartitionReplies.TheVariants.{Made, LacksItem, HasToGrow, HasSize, Moved, Listed}
+use Rattle.dshash_parts.specs.declared.histories.PartitionReplies.TheVariants.{Made, LacksItem, HasToGrow, Crowded, HasSize, Moved, Listed}
 use Rattle.page_cache.specs.Owned.{last_put, own_page}
 use Rattle.page_cache.specs.Pages.{stepped}
 use Rattle.page_cache.specs.Tickets.{Answers, Asks, CacheEntry, CacheEvent, CacheHistories}
@@ -88,21 +88,25 @@ module _ (name : List ℕ) where
   none_put (Turn number call (Made reply unused freed) ∷ es) h = absurd h
   none_put (Turn number (Call k c s) LacksItem ∷ es) h = (λ page. refl, none_put es h)
   none_put (Turn number (Call k c s) (HasToGrow size back) ∷ es) h = (λ page. refl, none_put es h)
+  none_put (Turn number (Call k c s) (Crowded longest back) ∷ es) h = (λ page. refl, none_put es h)
   none_put (Turn number (Call k c s) (HasSize size keys) ∷ es) h = (λ page. refl, none_put es h)
   none_put (Turn number (Call k c s) (Moved left) ∷ es) h = (λ page. refl, none_put es h)
   none_put (Turn number (Call k c s) (Listed entries) ∷ es) h = (λ page. refl, none_put es h)
   none_put (Turn number Looks LacksItem ∷ es) h = (λ page. refl, none_put es h)
   none_put (Turn number Looks (HasToGrow size back) ∷ es) h = (λ page. refl, none_put es h)
+  none_put (Turn number Looks (Crowded longest back) ∷ es) h = (λ page. refl, none_put es h)
   none_put (Turn number Looks (HasSize size keys) ∷ es) h = (λ page. refl, none_put es h)
   none_put (Turn number Looks (Moved left) ∷ es) h = (λ page. refl, none_put es h)
   none_put (Turn number Looks (Listed entries) ∷ es) h = (λ page. refl, none_put es h)
   none_put (Turn number (Moves to) LacksItem ∷ es) h = (λ page. refl, none_put es h)
   none_put (Turn number (Moves to) (HasToGrow size back) ∷ es) h = (λ page. refl, none_put es h)
+  none_put (Turn number (Moves to) (Crowded longest back) ∷ es) h = (λ page. refl, none_put es h)
   none_put (Turn number (Moves to) (HasSize size keys) ∷ es) h = (λ page. refl, none_put es h)
   none_put (Turn number (Moves to) (Moved left) ∷ es) h = (λ page. refl, none_put es h)
   none_put (Turn number (Moves to) (Listed entries) ∷ es) h = (λ page. refl, none_put es h)
   none_put (Turn number Lists LacksItem ∷ es) h = (λ page. refl, none_put es h)
   none_put (Turn number Lists (HasToGrow size back) ∷ es) h = (λ page. refl, none_put es h)
+  none_put (Turn number Lists (Crowded longest back) ∷ es) h = (λ page. refl, none_put es h)
   none_put (Turn number Lists (HasSize size keys) ∷ es) h = (λ page. refl, none_put es h)
   none_put (Turn number Lists (Moved left) ∷ es) h = (λ page. refl, none_put es h)
   none_put (Turn number Lists (Listed entries) ∷ es) h = (λ page. refl, none_put es h)

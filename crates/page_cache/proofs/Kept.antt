@@ -12,7 +12,7 @@ use Rattle.dshash_parts.specs.Replays.{calls_of_key, made_of}
 use Rattle.dshash_parts.specs.States.{PartitionState, fresh}
 use Rattle.dshash_parts.specs.Tables.{AtPartition}
 use Rattle.dshash_parts.specs.declared.histories.PartitionCalls.TheVariants.{Call, Looks, Moves, Lists}
-use Rattle.dshash_parts.specs.declared.histories.PartitionReplies.TheVariants.{Made, LacksItem, HasToGrow, HasSize, Moved, Listed}
+use Rattle.dshash_parts.specs.declared.histories.PartitionReplies.TheVariants.{Made, LacksItem, HasToGrow, Crowded, HasSize, Moved, Listed}
 use Rattle.dshash_parts.proofs.Replays.{changed_else, changed_here, one}
 use Rattle.page_cache.specs.Owned.{IsEviction, IsKept, NonePut, WasEvicted, last_put, newer, own_page, put_by, under}
 use Rattle.page_cache.specs.Pages.{after, may, owner_of, stepped}
@@ -59,6 +59,7 @@ module _ (name : List ℕ) where
       (keys_same_or_not name k)
   quiet_or_not before left (Call k c spare) LacksItem h = inl (refl, sym (one stepped name before left (Call k c spare) LacksItem h))
   quiet_or_not before left (Call k c spare) (HasToGrow size back) h = inl (refl, sym (one stepped name before left (Call k c spare) (HasToGrow size back) h))
+  quiet_or_not before left (Call k c spare) (Crowded longest back) h = inl (refl, sym (one stepped name before left (Call k c spare) (Crowded longest back) h))
   quiet_or_not before left (Call k c spare) (HasSize size keys) h = absurd h
   quiet_or_not before left (Call k c spare) (Moved words) h = absurd h
   quiet_or_not before left (Call k c spare) (Listed entries) h = absurd h
@@ -82,6 +83,7 @@ module _ (name : List ℕ) where
         (keys_same_or_not name k)
     others_leave by ne page (Call k c spare) LacksItem lets = refl
     others_leave by ne page (Call k c spare) (HasToGrow size back) lets = refl
+    others_leave by ne page (Call k c spare) (Crowded longest back) lets = refl
     others_leave by ne page (Call k c spare) (HasSize size keys) lets = refl
     others_leave by ne page (Call k c spare) (Moved words) lets = refl
     others_leave by ne page (Call k c spare) (Listed entries) lets = refl

@@ -13,7 +13,7 @@ use Rattle.dshash_parts.specs.Promises.{IsMadeWith}
 use Rattle.dshash_parts.specs.Tables.{AtPartition}
 use Rattle.dshash_parts.specs.Traces.{AreGifts, Asked, Gave, Got, Missed, NoneMade, Sight, Trace, Turn}
 use Rattle.dshash_parts.specs.declared.histories.PartitionCalls.TheVariants.{Call, Looks, Moves, Lists}
-use Rattle.dshash_parts.specs.declared.histories.PartitionReplies.TheVariants.{Made, LacksItem, HasToGrow, HasSize, Moved, Listed}
+use Rattle.dshash_parts.specs.declared.histories.PartitionReplies.TheVariants.{Made, LacksItem, HasToGrow, Crowded, HasSize, Moved, Listed}
 use Rattle.dshash_parts.proofs.Sweeps.{trace_append}
 use Rattle.dshash_parts.proofs.Uses.{partition_low}
 use Rattle.page_cache.specs.Pages.{stepped}
@@ -46,6 +46,7 @@ idle : (count : PageCall → Option Page → ℕ) (call : Asks) (reply : Answers
 idle count (Call name call spare) (Made before unused freed) h = absurd (h before unused freed refl)
 idle count (Call name call spare) LacksItem h = refl
 idle count (Call name call spare) (HasToGrow size back) h = refl
+idle count (Call name call spare) (Crowded longest back) h = refl
 idle count (Call name call spare) (HasSize size keys) h = refl
 idle count (Call name call spare) (Moved left) h = refl
 idle count (Call name call spare) (Listed entries) h = refl
@@ -63,6 +64,7 @@ none_pays t (Asked request ∷ es) h = (t, refl, none_pays t es h)
 none_pays t (Turn number call (Made reply unused freed) ∷ es) h = absurd h
 none_pays t (Turn number call LacksItem ∷ es) h = idles t t number call LacksItem es (λ b u f e. absurd (cc)) (none_pays t es h)
 none_pays t (Turn number call (HasToGrow size back) ∷ es) h = idles t t number call (HasToGrow size back) es (λ b u f e. absurd (cc)) (none_pays t es h)
+none_pays t (Turn number call (Crowded longest back) ∷ es) h = idles t t number call (Crowded longest back) es (λ b u f e. absurd (cc)) (none_pays t es h)
 none_pays t (Turn number call (HasSize size keys) ∷ es) h = idles t t number call (HasSize size keys) es (λ b u f e. absurd (cc)) (none_pays t es h)
 none_pays t (Turn number call (Moved left) ∷ es) h = idles t t number call (Moved left) es (λ b u f e. absurd (cc)) (none_pays t es h)
 none_pays t (Turn number call (Listed entries) ∷ es) h = idles t t number call (Listed entries) es (λ b u f e. absurd (cc)) (none_pays t es h)

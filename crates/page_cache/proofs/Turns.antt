@@ -12,7 +12,7 @@ use Rattle.dshash_core.specs.Outcome.{changed}
 use Rattle.dshash_parts.specs.Legal.{IsTurn, PartitionLegal}
 use Rattle.dshash_parts.specs.States.{PartitionState}
 use Rattle.dshash_parts.specs.declared.histories.PartitionCalls.TheVariants.{Call, Looks, Moves, Lists}
-use Rattle.dshash_parts.specs.declared.histories.PartitionReplies.TheVariants.{Made, LacksItem, HasToGrow, HasSize, Moved, Listed}
+use Rattle.dshash_parts.specs.declared.histories.PartitionReplies.TheVariants.{Made, LacksItem, HasToGrow, Crowded, HasSize, Moved, Listed}
 use Rattle.page_cache.specs.Pages.{after, stepped}
 use Rattle.page_cache.specs.Tickets.{Answers, Asks, CacheEntry, makes, of_turn, takes}
 use Rattle.page_cache.specs.declared.page.Page.{Page}
@@ -55,6 +55,7 @@ turn_counts before left (Call name call spare) (Made reply unused freed) h =
     (ap (λ (m : KeyMap Page). fin.len m + takes call stood) h.1.steps ∙ made_counts before.cells name call stood refl)
 turn_counts before left (Call name call spare) LacksItem h = ap (λ (m : KeyMap Page). fin.len m + 0) h.1.same
 turn_counts before left (Call name call spare) (HasToGrow size back) h = ap (λ (m : KeyMap Page). fin.len m + 0) h.1.same
+turn_counts before left (Call name call spare) (Crowded longest back) h = ap (λ (s : PartitionState Page). fin.len s.cells + 0) h.0
 turn_counts before left (Call name call spare) (HasSize size keys) h = absurd h
 turn_counts before left (Call name call spare) (Moved words) h = absurd h
 turn_counts before left (Call name call spare) (Listed entries) h = absurd h
@@ -62,12 +63,14 @@ turn_counts before left Looks (HasSize size keys) h = ap (λ (s : PartitionState
 turn_counts before left Looks (Made reply unused freed) h = absurd h
 turn_counts before left Looks LacksItem h = absurd h
 turn_counts before left Looks (HasToGrow size back) h = absurd h
+turn_counts before left Looks (Crowded longest back) h = absurd h
 turn_counts before left Looks (Moved words) h = absurd h
 turn_counts before left Looks (Listed entries) h = absurd h
 turn_counts before left (Moves to) (Moved words) h = ap (λ (m : KeyMap Page). fin.len m + 0) h.0.same
 turn_counts before left (Moves to) (Made reply unused freed) h = absurd h
 turn_counts before left (Moves to) LacksItem h = absurd h
 turn_counts before left (Moves to) (HasToGrow size back) h = absurd h
+turn_counts before left (Moves to) (Crowded longest back) h = absurd h
 turn_counts before left (Moves to) (HasSize size keys) h = absurd h
 turn_counts before left (Moves to) (Listed entries) h = absurd h
 turn_counts before left Lists (Listed (Some entries)) h = ap (λ (s : PartitionState Page). fin.len s.cells + 0) h.1
@@ -75,6 +78,7 @@ turn_counts before left Lists (Listed None) h = ap (λ (s : PartitionState Page)
 turn_counts before left Lists (Made reply unused freed) h = absurd h
 turn_counts before left Lists LacksItem h = absurd h
 turn_counts before left Lists (HasToGrow size back) h = absurd h
+turn_counts before left Lists (Crowded longest back) h = absurd h
 turn_counts before left Lists (HasSize size keys) h = absurd h
 turn_counts before left Lists (Moved words) h = absurd h
 

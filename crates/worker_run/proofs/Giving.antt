@@ -86,7 +86,7 @@ gives_permuted slots groups done u v old new p x = record {
         keyed = m.keyed;
         done = m.done;
         missed = m.missed;
-        few = m.few;
+        causes = m.causes;
       };
   written = x.written;
   sent = x.sent;

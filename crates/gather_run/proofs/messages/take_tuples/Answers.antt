@@ -7,10 +7,10 @@ loop-init c = record { region = refl; ring = refl; stays = c.requires.stays; tak
 
 pub returns-in-Over-clause-look : goal.returns-in-Over-clause-look
 returns-in-Over-clause-look c =
-    (takes_more c.args.tuples.now.end c.loop.tuples.end c.take_tuple.new.tuples.end c.args.groups.now c.loop.groups c.take_tuple.new.groups c.loop.invariant.takes c.in-Over.ensures.look.0, c.in-Over.ensures.look.1)
+    (takes_more c.args.tuples.now.end c.loop.tuples.end c.take_next.new.tuples.end c.args.groups.now c.loop.groups c.take_next.new.groups c.loop.invariant.takes c.in-Over.ensures.look.0, c.in-Over.ensures.look.1)
 
 pub returns-in-More-false-clause-look : goal.returns-in-More-false-clause-look
-returns-in-More-false-clause-look c = takes_more c.args.tuples.now.end c.loop.tuples.end c.take_tuple.new.tuples.end c.args.groups.now c.loop.groups c.take_tuple.new.groups c.loop.invariant.takes c.in-More-false.ensures.look
+returns-in-More-false-clause-look c = takes_more c.args.tuples.now.end c.loop.tuples.end c.take_next.new.tuples.end c.args.groups.now c.loop.groups c.take_next.new.groups c.loop.invariant.takes c.in-More-false.ensures.look
 
 pub loop-preserved : goal.loop-preserved
 loop-preserved c =
@@ -20,5 +20,5 @@ loop-preserved c =
       region = e.region ∙ i.region;
       ring = e.ring ∙ i.ring;
       stays = e.stays;
-      takes = takes_more c.args.tuples.now.end c.loop.tuples.end c.take_tuple.new.tuples.end c.args.groups.now c.loop.groups c.take_tuple.new.groups i.takes e.look;
+      takes = takes_more c.args.tuples.now.end c.loop.tuples.end c.take_next.new.tuples.end c.args.groups.now c.loop.groups c.take_next.new.groups i.takes e.look;
     }

@@ -2,14 +2,16 @@ use Rattle.std.proofs.Common.{◌≡◌, ◌++◌, ◌∷◌, [], ℕ, List, tru
 use Rattle.csv_rows.specs.Records.{field_of}
 use Rattle.dsa_area.specs.Shown.{pages_mine}
 use Rattle.dshash_core.specs.Key.{packed_key}
-use Rattle.dshash_parts.specs.Promises.{CallMade, CallRefused}
+use Rattle.dshash_parts.specs.Promises.{CallMade}
 use Rattle.dshash_parts.specs.Tables.{item_of}
 use Rattle.dshash_parts.specs.Traces.{sight_of}
+use Rattle.dshash_parts.specs.Within.{CallEnded}
 use Rattle.lock_book.specs.Shown.{mine_of, number_of}
 use Rattle.par_model.specs.Record.{is_null}
 use Rattle.join_pairs.specs.Chains.{last_step}
-use Rattle.hash_join.specs.Filled.{HasPut, key_of}
-use Rattle.hash_join.proofs.Putting.{put_empty, put_made, put_spilled}
+use Rattle.hash_join.specs.Filled.{HasPut, key_of, longest_chain}
+use Rattle.hash_join.proofs.Ended.{put_ended}
+use Rattle.hash_join.proofs.Putting.{put_empty, put_made}
 use Rattle.hash_join.proofs.filling.put_row.Goals as goal
 
 pub returns-then-is_empty-clause-put : goal.returns-then-is_empty-clause-put
@@ -25,20 +27,19 @@ returns-in-Ok-push-clause-put g c =
     let s = c.args.store.now in
     let some : is_null (field_of c.args.rows.now c.args.row c.args.column) ≡ false = ap is_null (sym c.field-field.ensures) ∙ sym c.is_empty.ensures ∙ c.if-is_empty.false in
     let key : c.in-Some.key ≡ key_of c.args.rows.now c.args.column c.args.row = c.in-Some.ensures.key ∙ ap packed_key c.field-field.ensures in
-    let made = subst (λ (k : List ℕ). CallMade last_step s.table s.area f.table f.area c.call-put.new.pass c.call-put.new.apass k c.args.row c.in-Ok.before) key c.in-Ok.ensures.made in
+    let made = subst (λ (k : List ℕ). CallMade last_step s.table s.area f.table f.area c.call_within-put.new.pass c.call_within-put.new.apass k c.args.row c.in-Ok.before) key c.in-Ok.ensures.made in
     λ list h.
-    subst (λ (ls : _). HasPut c.args.rows.now c.args.column (list ++ c.args.row ∷ []) (mine_of c.call-put.new.pass) (pages_mine c.call-put.new.apass) ls f.spilled.items) (sym c.in-Ok-push.ensures.items)
-    (put_made c.args.rows.now c.args.column c.args.row s.area (number_of f.table) (sight_of f.table f.area) (sight_of c.call-put.new.pass c.call-put.new.apass) made.0 made.2 list f.links.items f.spilled.items some h (item_of s.table) c.in-Ok.before made.1)
+    subst (λ (ls : _). HasPut c.args.rows.now c.args.column (list ++ c.args.row ∷ []) (mine_of c.call_within-put.new.pass) (pages_mine c.call_within-put.new.apass) ls f.spilled.items) (sym c.in-Ok-push.ensures.items)
+    (put_made c.args.rows.now c.args.column c.args.row s.area (number_of f.table) (sight_of f.table f.area) (sight_of c.call_within-put.new.pass c.call_within-put.new.apass) made.0 made.2 list f.links.items f.spilled.items some h (item_of s.table) c.in-Ok.before made.1)
 
--- the call was refused, and the row was kept
+-- the call was not made, and the row was kept
 pub returns-in-Ok-push-2-clause-put : goal.returns-in-Ok-push-2-clause-put
 returns-in-Ok-push-2-clause-put g c =
     let f = c.args.filler.now in
     let s = c.args.store.now in
-    let lack = c.in-Err.field-0 in
     let some : is_null (field_of c.args.rows.now c.args.row c.args.column) ≡ false = ap is_null (sym c.field-field.ensures) ∙ sym c.is_empty.ensures ∙ c.if-is_empty.false in
     let key : c.in-Some.key ≡ key_of c.args.rows.now c.args.column c.args.row = c.in-Some.ensures.key ∙ ap packed_key c.field-field.ensures in
-    let refused = subst (λ (k : List ℕ). CallRefused last_step s.table s.area f.table f.area c.call-put.new.pass c.call-put.new.apass k c.args.row lack.pages lack.largest) key c.in-Err.ensures.refused in
+    let ended = subst (λ (k : List ℕ). CallEnded last_step s.table s.area f.table f.area c.call_within-put.new.pass c.call_within-put.new.apass k c.args.row longest_chain c.in-Err.field-0) key c.in-Err.ensures.refused in
     λ list h.
-    subst (λ (ss : List ℕ). HasPut c.args.rows.now c.args.column (list ++ c.args.row ∷ []) (mine_of c.call-put.new.pass) (pages_mine c.call-put.new.apass) f.links.items ss) (sym c.in-Ok-push-2.ensures.items)
-    (put_spilled c.args.rows.now c.args.column c.args.row s.area (number_of f.table) (sight_of f.table f.area) (sight_of c.call-put.new.pass c.call-put.new.apass) refused.0 refused.2 list f.links.items f.spilled.items some h (item_of s.table) lack.pages lack.largest refused.1)
+    subst (λ (ss : List ℕ). HasPut c.args.rows.now c.args.column (list ++ c.args.row ∷ []) (mine_of c.call_within-put.new.pass) (pages_mine c.call_within-put.new.apass) f.links.items ss) (sym c.in-Ok-push-2.ensures.items)
+    (put_ended c.args.rows.now c.args.column c.args.row s.table s.area f.table f.area c.call_within-put.new.pass c.call_within-put.new.apass list f.links.items f.spilled.items some h c.in-Err.field-0 ended)

@@ -10,7 +10,7 @@ use Rattle.hash_join.proofs.Rounds.{are_new}
 use Rattle.hash_join.proofs.gathering.open_round.Goals as goal
 
 pub returns-clause-all : goal.returns-clause-all
-returns-clause-all g c =
+returns-clause-all c =
     let s = c.in_ok-store in
     let k = c.in_ok-claims in
     let f = c.in_ok-fillers.ensures in
@@ -21,12 +21,12 @@ returns-clause-all g c =
     }
 
 pub returns-clause-new : goal.returns-clause-new
-returns-clause-new g c =
+returns-clause-new c =
     let s = c.in_ok-store in
     let k = c.in_ok-claims in
     let fs = c.in_ok-fillers.fillers.items in
     let f = c.in_ok-fillers.ensures in
-    are_new s.store k.claims fs (returns-clause-all g c)
+    are_new s.store k.claims fs (returns-clause-all c)
     (λ n x e. s.ensures.new n x.table (subst (λ l. get_elem? l n ≡ some x.table) f.tables (map_get (λ (y : Filler). y.table) fs n x e)))
     (λ n x e. k.ensures.draws n x.claim (subst (λ l. get_elem? l n ≡ some x.claim) f.seats (map_get (λ (y : Filler). y.claim) fs n x e)))
     f.new
