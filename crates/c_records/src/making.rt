@@ -1,14 +1,13 @@
 //! How a table is made, and how a further caller comes to it.
 
-ghost use Rattle.std.specs.Prelude.{◌≡◌, ◌+◌, ◌≤◌, ◌<◌, IfOk, IfErr, length};
+ghost use Rattle.std.specs.Prelude.{◌≡◌, ◌+◌, ◌≤◌, ◌<◌, IfOk, IfErr};
 ghost use Rattle.c_records.specs.Made.{IsFirst, IsFurther};
 ghost use Rattle.c_table.specs.Made.{IsRefused};
 
 use crate::caller::Caller;
 use crate::shared::{Share, Shared};
-use c_table::{Code, Reserve, new_slices};
-use dshash_core::PARTITIONS;
-use dshash_parts::Dshash;
+use c_table::{Code, Reserve};
+use dshash_parts::{Dshash, cut_slices};
 use region_words::Region;
 use std::alloc::{AllocError, Global};
 use std::sync::Arc;
@@ -29,9 +28,9 @@ fn assemble(alloc: Global, callers: u32, words: u64) -> Result<Caller, AllocErro
     requires few { words + 129 ≤ 67108864 }
     ensures { IfOk result (λ c. IsFirst callers words c) }
 {
-    let (region, part) = Region::new(alloc, (words + OWN_WORDS) as usize)?;
-    let mut reserve = Reserve::of_part(part, 1, words + u64::from(PARTITIONS));
-    let slices = new_slices(alloc, &region, &mut reserve)?;
+    let (region, mut part) = Region::new(alloc, (words + OWN_WORDS) as usize)?;
+    let slices = cut_slices(alloc, &region, &mut part, 1)?;
+    let reserve = Reserve::of_part(part, OWN_WORDS, words);
     let (table, mut others) = Dshash::on_slices(alloc, &region, slices, 1, callers)?;
     let Some(pass) = others.pop() else {
         unreachable!()

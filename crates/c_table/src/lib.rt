@@ -22,7 +22,7 @@ mod word;
 pub use caller::{Caller, make_places, take_slice};
 pub use code::Code;
 pub use handle::{Handle, open, share};
-pub use making::{new_slices, new_table};
+pub use making::new_table;
 pub use reserve::Reserve;
 pub use shared::{Share, Shared};
 pub use word::{Word, WordCall};

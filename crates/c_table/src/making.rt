@@ -1,17 +1,14 @@
 //! How a table is made, and how a further caller comes to it.
 
-ghost use Rattle.std.specs.Prelude.{◌≡◌, ◌+◌, ◌≤◌, ◌<◌, IfOk, IfErr, length};
-ghost use Rattle.dshash_parts.specs.Opening.{HaveWords};
+ghost use Rattle.std.specs.Prelude.{◌≡◌, ◌+◌, ◌≤◌, ◌<◌, IfOk, IfErr};
 ghost use Rattle.c_table.specs.Made.{IsFirst, IsFurther, IsRefused};
-ghost use Rattle.c_table.specs.Reserves.{IsReserve};
 
 use crate::caller::Caller;
 use crate::code::Code;
 use crate::reserve::Reserve;
 use crate::shared::{Share, Shared};
-use dshash_core::PARTITIONS;
-use dshash_parts::Dshash;
-use region_words::{Chunk, Region};
+use dshash_parts::{Dshash, cut_slices};
+use region_words::Region;
 use std::alloc::{AllocError, Global};
 use std::sync::Arc;
 
@@ -24,29 +21,6 @@ const OWN_WORDS: u64 = 129;
 /// The most words of a region.
 const MOST_WORDS: u64 = 67_108_864;
 
-/// A slice of one word for each partition of a new table.
-pub fn new_slices(
-    alloc: Global,
-    r: &Region,
-    reserve: &mut Reserve,
-) -> Result<Vec<Chunk>, AllocError>
-    requires reserve { IsReserve r.now reserve.old }
-    requires room { 128 ≤ reserve.old.left }
-    ensures reserve { IsReserve r.now reserve.new }
-    ensures less { IfOk result (λ _. reserve.old.left ≡ reserve.new.left + 128) }
-    ensures count { IfOk result (λ v. length v.items ≡ 128) }
-    ensures slices { IfOk result (λ v. HaveWords r.now v.items) }
-{
-    let mut slices = Vec::with_capacity(alloc, PARTITIONS as usize)?;
-    for _cut in 0..PARTITIONS {
-        let Some(slice) = reserve.cut(r, 1) else {
-            unreachable!()
-        };
-        slices.push_reserved(slice);
-    }
-    Ok(slices)
-}
-
 /// An empty table for this many callers in its own region, with this many words for them.
 #[tactic(auto, using(word_map::proofs::Maps::answers, std::proofs::lemmas::Bool::Decides::nat_tests))]
 fn assemble(alloc: Global, callers: u32, words: u64) -> Result<Caller, AllocError>
@@ -54,9 +28,9 @@ fn assemble(alloc: Global, callers: u32, words: u64) -> Result<Caller, AllocErro
     requires few { words + 129 ≤ 67108864 }
     ensures { IfOk result (λ c. IsFirst callers words c) }
 {
-    let (region, part) = Region::new(alloc, (words + OWN_WORDS) as usize)?;
-    let mut reserve = Reserve::of_part(part, 1, words + u64::from(PARTITIONS));
-    let slices = new_slices(alloc, &region, &mut reserve)?;
+    let (region, mut part) = Region::new(alloc, (words + OWN_WORDS) as usize)?;
+    let slices = cut_slices(alloc, &region, &mut part, 1)?;
+    let reserve = Reserve::of_part(part, OWN_WORDS, words);
     let (table, mut others) = Dshash::on_slices(alloc, &region, slices, 1, callers)?;
     let Some(pass) = others.pop() else {
         unreachable!()

@@ -1,7 +1,7 @@
 -- Keys and bytes of the table of contents while a context is made.
 use Rattle.std.proofs.Common.{◌≡◌, ◌≤◌, ◌<◌, ◌+◌, ◌-◌, ◌*◌, ◌++◌, ◌==◌, ℕ, suc, false, cond, List, [], ◌∷◌, Option, Some, refl, ap, ◌∙◌, arith, length-append}
 use Rattle.shm_toc.specs.Table.{Entry, Table, free_bytes_of, place_of, rounded}
-use Rattle.free_pages.specs.Area.{area_size}
+use Rattle.agg_table.specs.Shown.{part_size}
 use Rattle.parallel_ctx.specs.Making.{IsMaking, with_queue, with_queues}
 use Rattle.parallel_ctx.specs.declared.tokens.WorkerEnds.{WorkerEnds}
 
@@ -29,10 +29,10 @@ module _ (t : Table) where
   pub same_plan : (key bytes at : ℕ) → 1 < key → place_of (with_queue t key bytes at).entries 1 ≡ place_of t.entries 1
   same_plan key bytes at h = other_key key bytes at 1 (grind (arith, h))
 
-pub making-area : (t : Table) (pages left at : ℕ) → IsMaking t 2 (8 * (area_size pages + 4) + left) → IsMaking (with_queue t 2 (8 * area_size pages) at) 16 left
-making-area t pages left at m =
-    let one = making-queue t 2 2 (8 * area_size pages) left at (making-from t 2 2 (8 * (area_size pages + 4) + left) (rounded (8 * area_size pages) + 16 + left) m (omega arith) (omega arith)) (omega arith) in
-    making-from (with_queue t 2 (8 * area_size pages) at) 3 16 left left one (omega arith) (omega arith)
+pub making-table : (t : Table) (pages left at : ℕ) → IsMaking t 2 (8 * (part_size pages + 4) + left) → IsMaking (with_queue t 2 (8 * part_size pages) at) 16 left
+making-table t pages left at m =
+    let one = making-queue t 2 2 (8 * part_size pages) left at (making-from t 2 2 (8 * (part_size pages + 4) + left) (rounded (8 * part_size pages) + 16 + left) m (omega arith) (omega arith)) (omega arith) in
+    making-from (with_queue t 2 (8 * part_size pages) at) 3 16 left left one (omega arith) (omega arith)
 
 pub making-next : (t : Table) (number left : ℕ) (e : WorkerEnds) → IsMaking t (16 + 2 * number) (82016 + left) → IsMaking (with_queues t number e) (18 + 2 * number) left
 making-next t number left e m =

@@ -1,10 +1,9 @@
 -- A context while it is made.
 use Rattle.std.specs.Prelude.{◌≡◌, ◌≤◌, ◌+◌, ◌*◌, ◌&&◌, ℕ, zero, suc, Bool, true, false, cond, leb, List, [], ◌∷◌, Option, Some, None}
-use Rattle.agg_table.specs.Shown.{AreUnusedSeats, IsPart, callers_of}
+use Rattle.agg_table.specs.Shown.{AreUnusedSeats, IsPart, callers_of, part_size}
 use Rattle.agg_table.specs.declared.part.HashPart.{HashPart}
 use Rattle.agg_table.specs.declared.part.HashSeat.{HashSeat}
 use Rattle.dsa_area.specs.Shown.{pages_of}
-use Rattle.free_pages.specs.Area.{area_size}
 use Rattle.par_model.specs.Plan.{Plan}
 use Rattle.atomic_table.specs.Seated.{TableId}
 use Rattle.scan_claim.specs.declared.claims.ClaimSeat.{ClaimSeat}
@@ -74,11 +73,11 @@ abbrev pub AreDealt : TableId → ℕ → Option HashPart → List HashSeat → 
 AreDealt region callers None seats = seats ≡ []
 AreDealt region callers (Some p) seats = IsPart region p × (callers_of p ≡ callers) × AreUnusedSeats p seats
 
--- there is a table exactly if the plan asks for it and the area has room for it; the area has this many pages
+-- there is a table exactly if the plan asks for it and the area has room for groups; the area has this many pages
 abbrev pub HasTable : Plan → ℕ → Option HashPart → Type 0
 HasTable plan pages None = (plan.hash && leb 16 pages) ≡ false
 HasTable plan pages (Some p) = ((plan.hash && leb 16 pages) ≡ true) × (pages_of p.area ≡ pages)
 
 -- the words that a table of groups takes of the segment, if there is one
 abbrev pub hash_size : Bool → ℕ → ℕ
-hash_size with_table pages = cond {A = ℕ} with_table (area_size pages + 4) 0
+hash_size with_table pages = cond {A = ℕ} with_table (part_size pages + 4) 0

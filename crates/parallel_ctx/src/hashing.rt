@@ -1,25 +1,23 @@
-//! The table of groups of a context: its area is a chunk of the segment, under its own key. It is made only if the plan
-//! asks for it and the area has room for it.
+//! The table of groups of a context: with its area it is a chunk of the segment, under its own key. It is made only if
+//! the plan asks for it and the area has room for groups.
 
-ghost use Rattle.std.specs.Prelude.{◌&&◌, leb, ◌∷◌, ◌≡◌, ◌≤◌, ◌*◌, ◌+◌, ◌%◌, ℕ, IfOk, IfSome, OnOk, None, is_some, true};
-ghost use Rattle.free_pages.specs.Area.{area_size};
+ghost use Rattle.std.specs.Prelude.{◌&&◌, leb, ◌∷◌, ◌≡◌, ◌≤◌, ◌*◌, ◌+◌, ◌%◌, ℕ, IfOk, IfSome, OnOk, None, is_some};
+ghost use Rattle.agg_table.specs.Shown.{part_size};
 ghost use Rattle.dsa_area.specs.Shown.{pages_of};
 ghost use Rattle.parallel_ctx.specs.Making.{AreDealt, IsMaking, firsts, hash_size, with_queue};
 ghost use Rattle.shm_toc.specs.Table.{free_bytes_of, place_of, table_of};
 ghost use Rattle.std.specs.Vec.Iter.{into_iter_items};
 ghost use Rattle.plan_spec.specs.declared.plan.TheConstants.{MOST_AREA_PAGES};
 
-use agg_table::{HashPart, HashSeat, LEAST_PAGES, open};
-use dsa_area::area_words;
+use agg_table::{HashPart, HashSeat, LEAST_PAGES, open, part_words};
 use par_model::BoundPlan;
 use region_words::{Chunk, Region};
 use shm_toc::Toc;
 use std::alloc::{AllocError, Global};
-use std::sync::Wait;
 use std::vec::IntoIter;
 
-/// The key of the area.
-const AREA_KEY: u64 = 2;
+/// The key of the table with its area.
+const TABLE_KEY: u64 = 2;
 
 /// Whether there is to be a table of groups.
 pub(crate) fn wants_table(plan: &BoundPlan, pages: u32) -> bool
@@ -28,7 +26,7 @@ pub(crate) fn wants_table(plan: &BoundPlan, pages: u32) -> bool
     plan.hash && pages >= LEAST_PAGES
 }
 
-/// The words that a table of groups takes of the segment: those of its area, and four for the entry of that.
+/// The words that a table of groups takes of the segment: its own with its area, and four for the entry of its chunk.
 pub(crate) fn hash_words(with_table: bool, pages: u32) -> u64
     requires { pages ≤ MOST_AREA_PAGES }
     ensures size { result ≡ hash_size with_table pages }
@@ -38,32 +36,31 @@ pub(crate) fn hash_words(with_table: bool, pages: u32) -> u64
     if !with_table {
         return 0;
     }
-    area_words(pages) + 4
+    part_words(pages) + 4
 }
 
-/// The chunk of the area, under its key.
-fn area_chunk(r: &Region, toc: &mut Toc, pages: u32) -> Chunk
+/// The chunk of the table with its area, under its key.
+fn table_chunk(r: &Region, toc: &mut Toc, pages: u32) -> Chunk
     requires here { toc.old.region ≡ r.now }
     requires few { pages ≤ MOST_AREA_PAGES }
-    requires room { 8 * area_size pages + 16 ≤ free_bytes_of (table_of toc.old.words) }
+    requires room { 8 * part_size pages + 16 ≤ free_bytes_of (table_of toc.old.words) }
     requires unused { place_of (table_of toc.old.words).entries 2 ≡ None }
     ensures here { toc.new.region ≡ toc.old.region }
     ensures chunk_here { result.part.region ≡ r.now }
-    ensures size { result.bytes ≡ 8 * area_size pages }
-    ensures entered { table_of toc.new.words ≡ with_queue (table_of toc.old.words) 2 (8 * area_size pages) result.at }
+    ensures size { result.bytes ≡ 8 * part_size pages }
+    ensures entered { table_of toc.new.words ≡ with_queue (table_of toc.old.words) 2 (8 * part_size pages) result.at }
 {
-    let Ok(chunk) = toc.allocate(r, 8 * area_words(pages)) else {
+    let Ok(chunk) = toc.allocate(r, 8 * part_words(pages)) else {
         unreachable!()
     };
-    let Ok(()) = toc.insert(r, AREA_KEY, chunk.at) else {
+    let Ok(()) = toc.insert(r, TABLE_KEY, chunk.at) else {
         unreachable!()
     };
     chunk
 }
 
 /// The table of groups for this many participants, if there is to be one, and their passes.
-pub(crate) fn open_hash<R: Wait>(
-    rt: &R,
+pub(crate) fn open_hash(
     alloc: Global,
     r: &Region,
     toc: &mut Toc,
@@ -73,7 +70,6 @@ pub(crate) fn open_hash<R: Wait>(
 ) -> Result<(Option<HashPart>, Vec<HashSeat>), AllocError>
     requires here { toc.old.region ≡ r.now }
     requires few { pages ≤ MOST_AREA_PAGES }
-    requires enough { with_table ≡ true → 16 ≤ pages }
     requires callers { 1 ≤ callers }
     requires making { IsMaking (table_of toc.old.words) 2 (8 * hash_size with_table pages) }
     ensures here { toc.new.region ≡ toc.old.region }
@@ -86,8 +82,8 @@ pub(crate) fn open_hash<R: Wait>(
     if !with_table {
         return Ok((None, Vec::new(alloc)));
     }
-    let chunk = area_chunk(r, toc, pages);
-    let (part, seats) = open(rt, alloc, r, chunk, pages, callers)?;
+    let chunk = table_chunk(r, toc, pages);
+    let (part, seats) = open(alloc, r, chunk, pages, callers)?;
     Ok((Some(part), seats))
 }
 

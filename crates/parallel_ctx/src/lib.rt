@@ -81,9 +81,9 @@ impl Model for Context {
 impl Context {
     /// Makes the region, the table of contents with the plan, the queues, and the tokens of the lead and of the workers
     /// asked for. Its only answer besides `Ok` is that there is no memory. It takes 82 KB for each worker and the
-    /// receivers' buffers, and writes each word of the region once.
+    /// receivers' buffers, and writes each word of the region once. It waits for nobody.
     pub fn build<R: Wait>(
-        rt: &R,
+        _rt: &R,
         alloc: Global,
         plan: &BoundPlan,
         workers: u32,
@@ -107,7 +107,6 @@ impl Context {
         let (region, part) = Region::new(alloc, words as usize)?;
         let Planned { mut toc, chunk } = new_toc(&region, part, words);
         let (hash, hash_seats) = open_hash(
-            rt,
             alloc,
             &region,
             &mut toc,

@@ -4,7 +4,7 @@
 //! | key | chunk |
 //! |---|---|
 //! | 1 | the plan's descriptor |
-//! | 2 | the area of the table of groups, if there is one |
+//! | 2 | the table of groups with its area, if there is one |
 //! | 16 + 2w | the error queue of worker w, from 1 on |
 //! | 17 + 2w | its tuple queue |
 //!

@@ -1,6 +1,7 @@
 use Rattle.std.proofs.Common.{◌≡◌, ℕ, List, [], ◌∷◌, length, length-append, sym, ap, ◌∙◌, subst, arith}
 use Rattle.std.specs.List.{All}
 use Rattle.std.proofs.lemmas.List.Elements.{All-nil}
+use Rattle.atomic_table.specs.Seated.{TableId}
 use Rattle.std_alloc.specs.Arc.{arc_value}
 use Rattle.region_words.specs.declared.chunk.Chunk.{Chunk}
 use Rattle.lock_book.specs.Shown.{mine_of, number_of, seen_of}
@@ -20,7 +21,7 @@ invariant_of-result c =
       shared = subst IsShared e (record { table = t.table; keys = t.keys; items = t.items });
       own = subst (λ (x : Shared). Belongs x.table c.in-Some.pass) e own.1.0;
       others = λ k p at. let o = own.0 k p at in (subst (λ (x : Shared). Belongs x.table p) e o.0, o.1, o.2);
-      reserve = subst (λ (x : Shared). IsReserve x.region c.new_slices.new.reserve) e c.in_ok-slices.ensures.reserve;
+      reserve = subst (λ (x : Shared). IsReserve x.region c.of_part-reserve.result) e (subst (λ (t : TableId). IsReserve t c.of_part-reserve.result) c.in_ok-slices.ensures.here c.of_part-reserve.ensures.0);
       items = subst (λ (l : List Chunk). All (IsItem (arc_value c.in_ok-shared.shared).region) l) (sym c.new-3.ensures.items) (All-nil _);
       slices = subst (λ (l : List Chunk). All (λ k. k.part.region ≡ (arc_value c.in_ok-shared.shared).region) l) (sym c.new-4.ensures.items) (All-nil _);
     }
@@ -32,7 +33,7 @@ returns c =
       callers_are = ap (λ (x : Shared). callers_of x.table) c.in_ok-shared.ensures.ok ∙ t.callers;
       others = omega (arith, ap length c.in-Some.ensures.items, length-append c.pop.new.self.items (c.in-Some.pass ∷ []), t.passes.count, t.callers);
       words_are =
-          let left : c.new_slices.new.reserve.left ≡ c.args.words = omega (arith, c.in_ok-slices.ensures.less, c.of_part-reserve.ensures.1, c.from.ensures) in
+          let left : c.of_part-reserve.result.left ≡ c.args.words = c.of_part-reserve.ensures.1 in
           let items : length c.new-3.result.items ≡ 0 = ap length c.new-3.ensures.items in
           let slices : chunk_words c.new-4.result.items ≡ 0 = ap chunk_words c.new-4.ensures.items in
           (left, omega arith);
