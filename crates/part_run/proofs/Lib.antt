@@ -7,3 +7,4 @@ pub mod Parting
 pub mod SeatedLists
 pub mod Read
 pub mod Rows
+mod FoundSpread

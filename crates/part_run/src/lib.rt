@@ -10,6 +10,7 @@
 
 #![tactic(auto)]
 
+mod found;
 mod hands;
 mod moving;
 mod parts;

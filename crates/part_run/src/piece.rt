@@ -1,6 +1,7 @@
-//! The rows of one piece, read and put into the lists of their parts.
+//! The rows of one piece, put into the lists of their parts as they are found or from a store.
 
-ghost use Rattle.std.specs.Prelude.{◌≡◌, ◌∷◌, [], All, IfErr, IfOk, OnOk, drop, length, take};
+ghost use Rattle.std.specs.Prelude.{◌≡◌, ◌∷◌, [], All, IfErr, IfOk, OnOk, drop, length, take, true};
+ghost use Rattle.csv_rows.specs.Readings.{is_plain};
 ghost use Rattle.par_model.specs.Columns.{HasColumns};
 ghost use Rattle.partial_agg.specs.Blocks.{ExplainsRow};
 ghost use Rattle.partial_agg.specs.Reading.{key_in, values_in};
@@ -11,6 +12,7 @@ ghost use Rattle.split_run.specs.Causes.{IsCause};
 ghost use Rattle.split_run.specs.Pieces.{piece_records, piece_rows};
 ghost use Rattle.part_run.specs.Carrying.{spread};
 
+use crate::found::spread_found;
 use csv_rows::{Record, RowStore, rows_as};
 use par_model::BoundPlan;
 use partial_agg::{BlockAnswer, RowBuffer, RowStatus};
@@ -18,8 +20,38 @@ use row_lists::PartLists;
 use row_windows::Window;
 use std::alloc::{AllocError, Global};
 
-/// Reads the rows of a piece, puts them into lists, and gives their number. The store of the rows is gone afterwards.
+/// Reads the rows of a piece, puts them into lists, and gives their number.
 pub(crate) fn spread_piece(
+    alloc: Global,
+    piece: &Window,
+    plan: &BoundPlan,
+    lists: &mut PartLists,
+) -> Result<u64, BlockAnswer>
+    requires columns { HasColumns plan.now (header_width (piece_records piece.now)) }
+    ensures spread { OnOk result (lists.new ≡ spread plan.now lists.old (piece_rows piece.now)) }
+    ensures accepted { OnOk result (All (IsAccepted plan.now (header_width (piece_records piece.now))) (piece_rows piece.now)) }
+    ensures count { IfOk result (λ count. count ≡ length (piece_rows piece.now)) }
+    ensures refused { IfErr result (IsCause plan.now (piece_records piece.now)) }
+{
+    if is_found(piece) {
+        match spread_found(alloc, piece.table(), plan, lists) {
+            Ok(Some(count)) => return Ok(count),
+            Ok(None) => {}
+            Err(why) => return Err(why),
+        }
+    }
+    spread_stored(alloc, piece, plan, lists)
+}
+
+/// Whether the rows of a piece are put into lists as they are found: if their fields are read as they are written.
+fn is_found(piece: &Window) -> bool
+    ensures { result ≡ true → is_plain piece.now.reading ≡ true }
+{
+    piece.reading().is_plain()
+}
+
+/// Reads the rows of a piece into a store, puts them into lists, and gives their number.
+fn spread_stored(
     alloc: Global,
     piece: &Window,
     plan: &BoundPlan,

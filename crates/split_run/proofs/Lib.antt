@@ -5,3 +5,4 @@ pub mod FirstRow
 mod Joining
 pub mod SeatedMaps
 mod Shared
+pub mod FoundPiece

@@ -8,6 +8,7 @@
 
 #![tactic(auto)]
 
+mod found;
 mod hands;
 mod piece;
 mod pieces;

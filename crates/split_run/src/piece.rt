@@ -1,21 +1,60 @@
-//! The rows of one piece, which are read into a store and added to a map.
+//! The rows of one piece, added to a map as they are found or from a store.
 
-ghost use Rattle.std.specs.Prelude.{◌≡◌, All, IfErr, IfOk, OnOk, drop, length};
+ghost use Rattle.std.specs.Prelude.{◌≡◌, All, IfErr, IfOk, OnOk, drop, length, true};
+ghost use Rattle.csv_rows.specs.Readings.{is_plain};
 ghost use Rattle.par_model.specs.Columns.{HasColumns};
 ghost use Rattle.partial_agg.specs.Groups.{with_rows};
 ghost use Rattle.partial_agg.specs.Rows.{IsAccepted, header_width};
 ghost use Rattle.split_run.specs.Causes.{IsCause};
 ghost use Rattle.split_run.specs.Pieces.{piece_records, piece_rows};
 
+use crate::found::add_found;
 use csv_rows::{RowStore, rows_as};
+use memchr::memchr;
 use par_model::BoundPlan;
 use partial_agg::{BlockAnswer, GroupMap};
 use row_blocks::count_blocks;
 use row_windows::Window;
 use std::alloc::Global;
 
-/// Reads the rows of a piece, adds them to a map, and gives their number. The store of the rows is gone afterwards.
+/// From so many groups on, a map looks for the rows of a block together, which takes a store.
+const MOST_NEAR_GROUPS: usize = 8192;
+
+/// Reads the rows of a piece, adds them to a map, and gives their number.
 pub(crate) fn add_piece(
+    alloc: Global,
+    piece: &Window,
+    plan: &BoundPlan,
+    groups: &mut GroupMap,
+) -> Result<u64, BlockAnswer>
+    requires columns { HasColumns plan.now (header_width (piece_records piece.now)) }
+    ensures added { OnOk result (groups.new ≡ with_rows plan.now groups.old (piece_rows piece.now)) }
+    ensures accepted { OnOk result (All (IsAccepted plan.now (header_width (piece_records piece.now))) (piece_rows piece.now)) }
+    ensures count { IfOk result (λ count. count ≡ length (piece_rows piece.now)) }
+    ensures refused { IfErr result (IsCause plan.now (piece_records piece.now)) }
+{
+    if is_found(piece, groups) {
+        match add_found(alloc, piece.table(), plan, groups) {
+            Ok(Some(count)) => return Ok(count),
+            Ok(None) => {}
+            Err(why) => return Err(why),
+        }
+    }
+    add_stored(alloc, piece, plan, groups)
+}
+
+/// Whether the rows of a piece are added as they are found: if there are quotes, with which a store is slow to fill, and the
+/// groups are so few that looking for one does not wait for far memory.
+fn is_found(piece: &Window, groups: &GroupMap) -> bool
+    ensures { result ≡ true → is_plain piece.now.reading ≡ true }
+{
+    piece.reading().is_plain()
+        && groups.len() < MOST_NEAR_GROUPS
+        && memchr(b'"', piece.table()).is_some()
+}
+
+/// Reads the rows of a piece into a store, adds them to a map, and gives their number.
+fn add_stored(
     alloc: Global,
     piece: &Window,
     plan: &BoundPlan,

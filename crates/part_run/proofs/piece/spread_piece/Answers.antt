@@ -1,15 +1,32 @@
-use Rattle.std.proofs.Common.{◌≡◌, ◌++◌, ◌∙◌, ap, subst}
-use Rattle.csv_rows.specs.Readings.{records_as}
-use Rattle.csv_rows.specs.declared.cleaning.Reading.{Reading}
+use Rattle.std.proofs.Common.{◌≡◌, ◌∙◌, ◌++◌, All, List, ℕ, ap, drop, refl, subst, sym, true}
+use Rattle.csv_rows.specs.Readings.{is_plain}
+use Rattle.csv_rows.specs.Records.{records_of}
+use Rattle.part_run.specs.Carrying.{spread}
+use Rattle.partial_agg.specs.Rows.{IsAccepted, header_width}
 use Rattle.row_blocks.specs.Blocks.{Table}
+use Rattle.row_windows.specs.Stretch.{Stretch}
 use Rattle.split_run.specs.Causes.{IsCause}
 use Rattle.split_run.specs.Pieces.{piece_records}
+use Rattle.split_run.proofs.FoundPiece.{read-plainly}
 use Rattle.part_run.proofs.piece.spread_piece.Goals as goal
 
--- the records that were read are those of the piece
-pub returns-clause-refused : goal.returns-clause-refused
-returns-clause-refused c =
-    let p = c.args.piece.now in
-    let same : c.in-Ok.store ≡ piece_records p =
-    c.in-Ok.ensures.records ∙ (ap (records_as c.reading.result.now) c.table.ensures ∙ ap (λ (r : Reading). records_as r (p.header ++ p.lines)) c.reading.ensures) in
+-- the records of a piece whose fields are read plainly
+found-records : (p : Stretch) (text : List ℕ) → is_plain p.reading ≡ true → text ≡ p.header ++ p.lines → records_of text ≡ piece_records p
+found-records p text plain is = ap records_of is ∙ sym (read-plainly p.reading (p.header ++ p.lines) plain)
+
+pub returns-in-Ok-Some-clause-spread : goal.returns-in-Ok-Some-clause-spread
+returns-in-Ok-Some-clause-spread c =
+    let same = found-records c.args.piece.now c.table.result.now (c.if-is_found.ensures refl) c.table.ensures in
+    let lists = rw c.in-Ok-Some.field-0-is at c.in-Ok-Some.ensures.spread in
+    lists ∙ ap (λ (l : Table). spread c.args.plan.now c.args.lists.now (drop 1 l)) same
+
+pub returns-in-Ok-Some-clause-accepted : goal.returns-in-Ok-Some-clause-accepted
+returns-in-Ok-Some-clause-accepted c =
+    let same = found-records c.args.piece.now c.table.result.now (c.if-is_found.ensures refl) c.table.ensures in
+    let accepted = rw c.in-Ok-Some.field-0-is at c.in-Ok-Some.ensures.accepted in
+    subst (λ (l : Table). All (IsAccepted c.args.plan.now (header_width l)) (drop 1 l)) same accepted
+
+pub returns-in-Err-clause-refused : goal.returns-in-Err-clause-refused
+returns-in-Err-clause-refused c =
+    let same = found-records c.args.piece.now c.table.result.now (c.if-is_found.ensures refl) c.table.ensures in
     subst (λ (l : Table). IsCause c.args.plan.now l c.in-Err.why) same c.in-Err.ensures.refused

@@ -1,0 +1,9 @@
+pub mod Bits
+pub mod Running
+pub mod Bytes
+pub mod Between
+pub mod Fields
+pub mod Records
+pub mod Blocks
+pub mod Places
+pub mod Copying

@@ -1,0 +1,8 @@
+pub mod Masks
+pub mod Written
+pub mod Closing
+pub mod Inside
+pub mod Spans
+pub mod Found
+pub mod Key
+pub mod Refused
