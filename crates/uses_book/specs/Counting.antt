@@ -1,5 +1,5 @@
 -- A counter's calls.
-use Rattle.std.specs.Prelude.{◌≡◌, ℕ, ◌+◌, ◌%◌, List, [], ◌∷◌}
+use Rattle.std.specs.Prelude.{◌≡◌, ℕ, ◌+◌, ◌%◌, List, [], ◌∷◌, ◌++◌, length}
 use Rattle.lock_book.specs.declared.view.Entry.{Entry}
 use Rattle.lock_book.specs.History.{IsLegal}
 
@@ -15,3 +15,13 @@ IsCount es = IsLegal (λ _ s k r t. AddsTo s k r t) 0 es
 abbrev pub total_of : List (Entry ℕ ℕ ℕ) → ℕ
 total_of [] = 0
 total_of (e ∷ es) = e.call + total_of es
+
+-- The history that is seen ends with so many calls, with no others between them, which add 1 each and are the caller's
+-- own next ones
+pub record EndsWithAdds (seen mine mine' : List (Entry ℕ ℕ ℕ)) (times : ℕ) : Type 0 where
+  pub before : List (Entry ℕ ℕ ℕ)
+  pub calls : List (Entry ℕ ℕ ℕ)
+  pub ends : seen ≡ before ++ calls
+  pub own : mine' ≡ mine ++ calls
+  pub count : length calls ≡ times
+  pub total : total_of calls ≡ times

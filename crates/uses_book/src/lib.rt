@@ -1,12 +1,15 @@
-//! Callers of `lock_book`, kept so that its surface is proved where it is used: a counter that two threads add to, a
-//! drawer that holds a part of a region, in a generic wrapper, and a user's object in another. The crate also has the
-//! tests of `par_barrier`, and of `par_exchange` three threads that trade and two that leave.
+//! Callers of `lock_book`, kept so that its surface is proved where it is used: a counter that two threads add to, and
+//! that many adds of one turn go to, a drawer that holds a part of a region, in a generic wrapper, and a user's object
+//! in another. The crate also has the tests of `par_barrier`, and of `par_exchange` three threads that trade and two
+//! that leave.
 
 #![tactic(auto)]
 
 mod asks;
 #[cfg(test)]
 mod barriers;
+#[cfg(test)]
+mod batch;
 #[cfg(test)]
 mod counter;
 #[cfg(test)]
@@ -31,6 +34,8 @@ mod turns;
 mod twice;
 
 pub use asks::{Answer, Ask, Call, DrawerName, Reply};
+#[cfg(test)]
+pub use batch::{add_in_one_turn, added_in_one_turn};
 #[cfg(test)]
 pub use counter::Counter;
 #[cfg(test)]

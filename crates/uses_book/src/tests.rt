@@ -8,8 +8,8 @@ ghost use Rattle.lock_book.specs.History.{last_of};
 ghost use Rattle.lock_book.specs.Shown.{Belongs, callers_of, count_of, number_of, opens_of, seen_of};
 
 use crate::{
-    Guarded, Numbered, Object, Tag, added_by_two, called_by_two, called_once, end_two, for_three,
-    one_goes_on, put_in, round_trip, take_out, three_parties,
+    Guarded, Numbered, Object, Tag, added_by_two, added_in_one_turn, called_by_two, called_once,
+    end_two, for_three, one_goes_on, put_in, round_trip, take_out, three_parties,
 };
 use lock_book::{Pass, Shelf, two_of};
 use region_words::{Part, Region};
@@ -30,6 +30,12 @@ impl Tag for Nine {
 #[test]
 fn two_threads_add_a_thousand_times_each(rt: HostRuntime) -> Result<(), Fail> {
     assert_eq!(rt; added_by_two(&rt, rt.alloc(), 1000)?, 2000);
+    Ok(())
+}
+
+#[test]
+fn one_caller_adds_a_thousand_times_in_one_turn(rt: HostRuntime) -> Result<(), Fail> {
+    assert_eq!(rt; added_in_one_turn(&rt, rt.alloc(), 1000)?, 1000);
     Ok(())
 }
 

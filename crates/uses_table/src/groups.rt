@@ -4,8 +4,7 @@ ghost use Rattle.std.specs.Prelude.{◌≡◌, ◌≤◌, [], IfOk, List, OnOk};
 ghost use Rattle.agg_table.specs.Calls.{Group, HasPut};
 ghost use Rattle.agg_table.specs.Shown.{AreUnusedSeats, IsPart, IsSeat, IsUnusedBy, callers_of, number_at, use_of};
 
-use agg_table::{HashPart, HashSeat, drain, open};
-use dsa_area::area_words;
+use agg_table::{HashPart, HashSeat, drain, open, part_words};
 use par_model::{AggState, NO_VALUES};
 use partial_agg::{GroupKey, GroupMap};
 use region_words::Region;
@@ -14,20 +13,16 @@ use std::sync::Wait;
 use std::test::Fail;
 
 /// A table in its own region, and the seat of its one participant.
-fn table_for_one<R: Wait>(
-    rt: &R,
-    alloc: Global,
-    pages: u32,
-) -> Result<(Region, HashPart, Vec<HashSeat>), Fail>
-    requires pages { (16 ≤ pages) × (pages ≤ 65536) }
+fn table_for_one(alloc: Global, pages: u32) -> Result<(Region, HashPart, Vec<HashSeat>), Fail>
+    requires pages { pages ≤ 65536 }
     ensures part { IfOk result (λ t. IsPart t.0 t.1) }
     ensures callers { IfOk result (λ t. callers_of t.1 ≡ 1) }
     ensures seats { IfOk result (λ t. AreUnusedSeats t.1 t.2.items) }
 {
-    let words = area_words(pages);
+    let words = part_words(pages);
     let (region, mut part) = Region::new(alloc, words as usize + 1)?;
     let chunk = part.split_chunk(&region, 1, words);
-    let (table, seats) = open(rt, alloc, &region, chunk, pages, 1)?;
+    let (table, seats) = open(alloc, &region, chunk, pages, 1)?;
     Ok((region, table, seats))
 }
 
@@ -66,7 +61,7 @@ fn gather_four<R: Wait>(
     rows: u64,
     groups: &mut GroupMap,
 ) -> Result<(), Fail> {
-    let (region, part, mut seats) = table_for_one(rt, alloc, 64)?;
+    let (region, part, mut seats) = table_for_one(alloc, 64)?;
     let Some(mut seat) = seats.pop() else {
         unreachable!()
     };

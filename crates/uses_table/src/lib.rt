@@ -9,6 +9,8 @@ mod aging;
 #[cfg(test)]
 mod cache;
 #[cfg(test)]
+mod crowded;
+#[cfg(test)]
 mod doubling;
 #[cfg(test)]
 mod groups;
@@ -22,6 +24,8 @@ mod one;
 #[cfg(test)]
 mod parts;
 #[cfg(test)]
+mod replacing;
+#[cfg(test)]
 mod states;
 #[cfg(test)]
 mod tests;
@@ -32,4 +36,6 @@ pub use aging::{Round, tick_one};
 #[cfg(test)]
 pub use cache::{forget, keep, own_name, recall, remember};
 pub use lease::{Lease, LeaseCall};
+#[cfg(test)]
+pub use replacing::replace_if;
 pub use text::{Text, TextCall};

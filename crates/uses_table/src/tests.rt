@@ -4,7 +4,7 @@
 ghost use Rattle.dshash_parts.specs.Uses.{IsAtHome};
 
 use crate::one::table_for_one;
-use crate::{Text, forget, keep, own_name, recall};
+use crate::{Text, forget, keep, own_name, recall, replace_if};
 use dsa_area::{Area, AreaPass};
 use dshash_parts::{DsPass, Dshash};
 use dshash_scan::{count_all, list_all};
@@ -46,8 +46,13 @@ fn a_cache_keeps_texts(rt: HostRuntime) -> Result<(), Fail> {
     assert_eq!(rt; entries.len(), 400);
     assert_eq!(rt; count_all(&rt, &cache, &region, &mut pass), 400);
     let name = own_name(pass.number(), 7);
+    let (Some(text), Some(other)) = (Text::of(b"a text"), Text::of(b"another text")) else {
+        return Err(Fail::new("no text"));
+    };
+    assert!(rt; replace_if(&rt, &cache, &region, &mut pass, &name, &text, other));
+    assert!(rt; !replace_if(&rt, &cache, &region, &mut pass, &name, &text, text));
     let gone = forget(&rt, &cache, &region, &area, &mut pass, &mut apass, &name);
-    assert!(rt; gone == Text::of(b"a text"));
+    assert!(rt; gone == Some(other));
     let again = recall(&rt, &cache, &region, &mut pass, &name);
     assert!(rt; again.is_none());
     Ok(())

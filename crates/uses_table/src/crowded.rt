@@ -1,0 +1,81 @@
+//! Keys with one hash: a table whose calls have a bound takes so many of them and no more, and other keys still.
+
+ghost use Rattle.dshash_parts.specs.Uses.{IsAtHome};
+
+use crate::one::table_for_one;
+use dsa_area::{Area, AreaPass};
+use dshash_numbers::{Number, NumberCall};
+use dshash_parts::{DsPass, Dshash, NoRoom};
+use region_words::Region;
+use std::sync::Wait;
+use std::test::Fail;
+
+/// How many words a key has.
+const KEY_WORDS: usize = 7;
+
+/// Two words that FNV-1a takes from its first value back to it, so all keys that are made of them have one hash.
+const WORDS: [u64; 2] = [0x776c_716f_756c_6165, 0x656e_7377_6b75_6e69];
+
+/// The key of that number below 128: for each bit one of the two words.
+fn key_of(number: u64) -> [u64; KEY_WORDS] {
+    let mut key = [WORDS[0]; KEY_WORDS];
+    for place in 0..KEY_WORDS {
+        if (number >> place) % 2 == 1 {
+            key[place] = WORDS[1];
+        }
+    }
+    key
+}
+
+/// Puts the keys of the numbers below `count`, with a bound of 64. Says how many were new, and for how many the chain was
+/// too long.
+fn put_all<R: Wait>(
+    rt: &R,
+    table: &Dshash<Number>,
+    r: &Region,
+    area: &Area,
+    pass: &mut DsPass<Number>,
+    apass: &mut AreaPass,
+    count: u64,
+) -> (u64, u64)
+    requires home { IsAtHome r.now area.now table.now 7 pass.old apass.old }
+    ensures home { IsAtHome r.now area.now table.now 7 pass.new apass.new }
+{
+    let mut new = 0u64;
+    let mut crowded = 0u64;
+    for number in 0..count {
+        let call = NumberCall::Put(number);
+        match table.call_within(rt, r, area, pass, apass, &key_of(number), &call, 64) {
+            Ok(None) => new = new.saturating_add(1),
+            Err(NoRoom::Chain) => crowded = crowded.saturating_add(1),
+            Ok(Some(_)) | Err(NoRoom::Space(_)) => {}
+        }
+    }
+    (new, crowded)
+}
+
+#[test]
+fn a_chain_takes_64_keys(rt: HostRuntime) -> Result<(), Fail> {
+    let (region, area, table, mut pass, mut apass) = table_for_one(&rt, rt.alloc(), 512, 7)?;
+    let counts = put_all(&rt, &table, &region, &area, &mut pass, &mut apass, 100);
+    assert_eq!(rt; counts, (64, 36));
+    let again = put_all(&rt, &table, &region, &area, &mut pass, &mut apass, 100);
+    assert_eq!(rt; again, (0, 36));
+    let call = NumberCall::Put(1);
+    let other = [1; KEY_WORDS];
+    let put = table.call_within(
+        &rt, &region, &area, &mut pass, &mut apass, &other, &call, 64,
+    );
+    assert!(rt; matches!(put, Ok(None)));
+    let free = table.call(
+        &rt,
+        &region,
+        &area,
+        &mut pass,
+        &mut apass,
+        &key_of(99),
+        &call,
+    );
+    assert!(rt; matches!(free, Ok(None)));
+    Ok(())
+}
