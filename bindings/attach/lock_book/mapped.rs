@@ -2,7 +2,7 @@
 //! Not proved; it takes the steps of `steps` in their order.
 use crate::Kept;
 use crate::shelf::{Pass, Shelf, give_back, lend};
-use crate::steps::{FREE, lock_word, release, serve};
+use crate::steps::{FREE, begin, lock_word, release, serve};
 use crate::table::{Advise, Board, Held, Place, Take, WORDS_OF_VALUE};
 use atomic_table::{Badge, Mapping, Site, Table, sleep_on};
 use crossbeam_utils::Backoff;
@@ -107,7 +107,8 @@ impl<T: Kept> Shelf<T> {
     ) -> Result<T::Out, T::In> {
         let mut seat = lend(&mut pass.badge);
         let answer = if take_while(&self.board, &mut seat, pass.number, at, lives) {
-            let output = serve(&self.board, &mut seat, at, env, input);
+            begin(&self.board, &mut seat, at);
+            let output = serve(&self.board, &mut seat, pass.number, at, env, input);
             release(&self.board, &mut seat, at);
             Ok(output)
         } else {
