@@ -1,11 +1,11 @@
 -- The hash of a word, byte by byte: a byte that is 0 is one product with the prime, so the zero bytes at a word's top
 -- are one product with a power of it.
-use Rattle.std.proofs.Common.{◌≡◌, ℕ, zero, suc, ◌+◌, ◌-◌, ◌*◌, ◌/◌, ◌%◌, ◌^◌, ◌<◌, ◌≤◌, List, [], ◌∷◌, fold, get_or, refl, sym, ap, ◌∙◌, arith}
+use Rattle.std.proofs.Common.{◌≡◌, ℕ, bit_xor, zero, suc, ◌+◌, ◌-◌, ◌*◌, ◌/◌, ◌%◌, ◌^◌, ◌<◌, ◌≤◌, List, [], ◌∷◌, fold, get_or, refl, sym, ap, ◌∙◌, arith}
 use Rattle.std.specs.Int.{byte_at, bytes_low_first}
 use Rattle.std.specs.Int.Bits.{xor_zero_r}
 use Rattle.std.proofs.Math.Nat.{mod-eq_of_lt, div-div-eq-div-mul}
 use Rattle.std.proofs.lemmas.Nat.{mul-mod_first, mul-mod_second, pow-add}
-use Rattle.dshash_core.specs.Key.{fnv_step}
+use Rattle.dshash_core.specs.Key.{finalized, fnv_step, fnv_word, hash_of, seeded_hash}
 
 -- the hash goes on over the k bytes of a word from byte i on
 abbrev pub over : ℕ → ℕ → ℕ → ℕ → ℕ
@@ -90,3 +90,8 @@ next_low left rest some low =
     let more : left ≡ left - 1 + 1 = omega arith in
     let p : 256 ^ left ≡ 256 ^ (left - 1) * 256 = ap (λ (n : ℕ). 256 ^ n) more ∙ pow-add 256 (left - 1) 1 in
     omega arith
+
+-- with the seed 0 a key has the hash that it has without one
+pub unseeded : (seed : ℕ) (key : List ℕ) → seed ≡ 0 → hash_of key ≡ seeded_hash seed key
+unfolding hash_of seeded_hash
+unseeded seed key none = ap (λ (h : ℕ). finalized (fold fnv_word h key)) (sym (xor_zero_r 0x811c_9dc5) ∙ ap (λ (s : ℕ). bit_xor 0x811c_9dc5 s) (sym none))

@@ -22,6 +22,10 @@ finalized h =
 unfoldable pub hash_of : List ℕ → ℕ
 hash_of key = finalized (fold fnv_word 0x811c_9dc5 key)
 
+-- the hash of a key in a table with a seed: the same from a basis that the seed changes. With the seed 0 it is `hash_of`
+unfoldable pub seeded_hash : ℕ → List ℕ → ℕ
+seeded_hash seed key = finalized (fold fnv_word (bit_xor 0x811c_9dc5 seed) key)
+
 -- a byte string of at most 248 bytes as a key: its length, then its bytes in 31 words, the lowest first, with zeros
 -- after them
 unfoldable pub packed_key : List ℕ → List ℕ

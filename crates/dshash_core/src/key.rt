@@ -2,7 +2,7 @@
 
 ghost use Rattle.std.specs.Prelude.{◌≡◌, ◌+◌, ◌*◌, ◌<◌, ◌≤◌, ◌^◌, ◌↔◌, List, ℕ, length, take, IfSome, IsNone};
 ghost use Rattle.rel_pointer.specs.Bytes.{AllBytes};
-ghost use Rattle.dshash_core.specs.Key.{fnv_word, finalized, hash_of, packed_key, IsPackedKey, item_size};
+ghost use Rattle.dshash_core.specs.Key.{fnv_word, finalized, hash_of, seeded_hash, packed_key, IsPackedKey, item_size};
 
 use rel_pointer::{pack, unpack};
 
@@ -66,6 +66,17 @@ pub fn hash_key(key: &[u64]) -> u32
     ensures { result ≡ hash_of key.now }
 {
     let hash = key.iter().fold(OFFSET_BASIS, |h, word| hash_word(h, *word));
+    finalize(hash)
+}
+
+/// The hash of a key's words in a table with this seed. With the seed 0 it is that of `hash_key`.
+#[tactic(auto, unfolding(crate::specs::Key::seeded_hash))]
+pub fn seeded_hash_key(seed: u32, key: &[u64]) -> u32
+    ensures { result ≡ seeded_hash seed key.now }
+{
+    let hash = key
+        .iter()
+        .fold(OFFSET_BASIS ^ seed, |h, word| hash_word(h, *word));
     finalize(hash)
 }
 

@@ -1,4 +1,5 @@
-//! Keys with one hash: a table whose calls have a bound takes so many of them and no more, and other keys still.
+//! Keys with one hash: a table whose calls have a bound takes so many of them and no more, and other keys still. A table
+//! with a seed, in which they have hashes of their own, takes them all.
 
 ghost use Rattle.dshash_parts.specs.Uses.{IsAtHome};
 
@@ -56,7 +57,7 @@ fn put_all<R: Wait>(
 
 #[test]
 fn a_chain_takes_64_keys(rt: HostRuntime) -> Result<(), Fail> {
-    let (region, area, table, mut pass, mut apass) = table_for_one(&rt, rt.alloc(), 512, 7)?;
+    let (region, area, table, mut pass, mut apass) = table_for_one(&rt, rt.alloc(), 512, 0, 7)?;
     let counts = put_all(&rt, &table, &region, &area, &mut pass, &mut apass, 100);
     assert_eq!(rt; counts, (64, 36));
     let again = put_all(&rt, &table, &region, &area, &mut pass, &mut apass, 100);
@@ -77,5 +78,14 @@ fn a_chain_takes_64_keys(rt: HostRuntime) -> Result<(), Fail> {
         &call,
     );
     assert!(rt; matches!(free, Ok(None)));
+    Ok(())
+}
+
+#[test]
+fn a_seed_parts_keys_of_one_hash(rt: HostRuntime) -> Result<(), Fail> {
+    let seed = 0x5eed_f00d;
+    let (region, area, table, mut pass, mut apass) = table_for_one(&rt, rt.alloc(), 512, seed, 7)?;
+    let counts = put_all(&rt, &table, &region, &area, &mut pass, &mut apass, 100);
+    assert_eq!(rt; counts, (100, 0));
     Ok(())
 }

@@ -39,7 +39,7 @@ fn keeps_all<R: Wait>(
 
 #[test]
 fn a_cache_keeps_texts(rt: HostRuntime) -> Result<(), Fail> {
-    let (region, area, cache, mut pass, mut apass) = table_for_one(&rt, rt.alloc(), 512, 32)?;
+    let (region, area, cache, mut pass, mut apass) = table_for_one(&rt, rt.alloc(), 512, 0, 32)?;
     let good = keeps_all(&rt, &cache, &region, &area, &mut pass, &mut apass, 400);
     assert_eq!(rt; good, 400);
     let entries = list_all(&rt, rt.alloc(), &cache, &region, &mut pass).expect(&rt, "memory");

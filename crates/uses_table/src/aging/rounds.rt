@@ -104,7 +104,7 @@ fn left_of<R: Wait>(
 
 #[test]
 fn leases_run_out(rt: HostRuntime) -> Result<(), Fail> {
-    let (region, area, leases, mut pass, mut apass) = table_for_one(&rt, rt.alloc(), 64, 1)?;
+    let (region, area, leases, mut pass, mut apass) = table_for_one(&rt, rt.alloc(), 64, 0, 1)?;
     let rounds = [0, 3, 1, 0, 2, 1];
     let granted = grant_all(&rt, &leases, &region, &area, &mut pass, &mut apass, &rounds);
     assert_eq!(rt; granted, 6);

@@ -102,7 +102,7 @@ fn listed<R: Wait>(
 
 #[test]
 fn a_table_adds_up_what_is_called(rt: HostRuntime) -> Result<(), Fail> {
-    let (region, area, table, mut pass, mut apass) = table_for_one(&rt, rt.alloc(), 64, 1)?;
+    let (region, area, table, mut pass, mut apass) = table_for_one(&rt, rt.alloc(), 64, 0, 1)?;
     let (one, two) = (one_row(), two_rows());
     let first = call_all(&rt, &table, &region, &area, &mut pass, &mut apass, 60, &one);
     let second = call_all(&rt, &table, &region, &area, &mut pass, &mut apass, 40, &two);
