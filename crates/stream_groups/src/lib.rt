@@ -33,6 +33,7 @@ mod separated;
 mod stop;
 mod taken;
 mod twice;
+mod useful;
 mod words;
 
 pub use filling::{First, first_window, more_feeds, stop_of_window};
@@ -46,4 +47,5 @@ pub use rows::bind;
 pub use separated::Separated;
 pub use stop::{LONG_RECORD, RefusedRow, Stop};
 pub use taken::Taken;
+pub use useful::useful_workers;
 pub use words::read_words;
