@@ -1,5 +1,5 @@
 -- A whole turn, put together from its moves.
-use Rattle.std.proofs.Common.{◌≡◌, ◌≢◌, ℕ, ◌≤◌, List, [], ◌∷◌, ◌++◌, sym, refl, ap, ◌∙◌, subst, arith, append_assoc, append-nil}
+use Rattle.std.proofs.Common.{◌≡◌, ◌≢◌, ℕ, List, [], ◌∷◌, ◌++◌, sym, refl, ap, ◌∙◌, subst, arith, append_assoc, append-nil}
 use mathlib.Core.Option.{some}
 use lib.ListN.{get_elem?}
 use Rattle.atomic_table.specs.Table.{Me}
@@ -8,7 +8,7 @@ use Rattle.lock_book.specs.declared.view.Stage.TheVariants.{Holding}
 use Rattle.lock_book.specs.declared.view.View.{View}
 use Rattle.lock_book.specs.History.{entry, last_of, calls_by, AreBy, IsLegal, row_at}
 use Rattle.lock_book.specs.Ruled.{mine_at, seen_at, seeing, served, Fits, Taken, IsSame}
-use Rattle.lock_book.specs.Told.{IsPass, Adds, AddsAll}
+use Rattle.lock_book.specs.Told.{IsPass, Adds}
 use Rattle.lock_book.proofs.Histories.{legal_snoc, legal-append, last_snoc, last-append, by_snoc, calls_by_all, calls_by_others, calls_at_all, calls_at_others, row_here, row_else, at_place}
 
 module _ {N S C R : Type 0} (legal : N → ℕ → S → C → R → S → Type 0) where

@@ -1,5 +1,5 @@
 -- A turn of several calls: how it begins, goes on and ends.
-use Rattle.std.proofs.Common.{◌≡◌, ◌≢◌, ℕ, ◌<◌, List, [], ◌∷◌, ◌++◌, length, sym, refl, ap, ◌∙◌, subst, arith}
+use Rattle.std.proofs.Common.{◌≡◌, ℕ, ◌<◌, List, [], ◌∷◌, ◌++◌, length, sym, refl, ap, ◌∙◌, subst}
 use mathlib.Core.Option.{some}
 use lib.ListN.{get_elem?}
 use Rattle.atomic_table.specs.Seated.{TableId}
@@ -9,7 +9,6 @@ use Rattle.lock_book.specs.declared.shelf.Pass.{Pass}
 use Rattle.lock_book.specs.declared.shelf.Shelf.{Shelf}
 use Rattle.lock_book.specs.declared.table.Slot.{Slot}
 use Rattle.lock_book.specs.declared.view.Entry.{Entry}
-use Rattle.lock_book.specs.declared.view.Stage.TheVariants.{Holding}
 use Rattle.lock_book.specs.declared.view.View.{View}
 use Rattle.lock_book.specs.History.{entry, last_of, made_of, AreBy, StartsWith, IsLegal}
 use Rattle.lock_book.specs.Ruled.{mine_at, seen_at, served, Fits, Taken, view_of}

@@ -1,5 +1,5 @@
 -- Rows that are put into lists as they are found.
-use Rattle.std.proofs.Common.{◌≡◌, ◌+◌, ◌++◌, ◌∙◌, ℕ, List, [], ◌∷◌, drop, take, ap, sym}
+use Rattle.std.proofs.Common.{◌≡◌, ◌+◌, ◌∙◌, ℕ, List, [], ◌∷◌, drop, take, ap, sym}
 use Rattle.par_model.specs.Plan.{Plan}
 use Rattle.row_blocks.specs.Blocks.{Table}
 use Rattle.row_lists.specs.Carried.{Carried}

@@ -1,5 +1,5 @@
 -- The rows of a table up to the first that is refused.
-use Rattle.std.proofs.Common.{◌≡◌, ◌<◌, ◌≤◌, ◌+◌, ◌-◌, ℕ, List, [], All, None, Some, length, take, drop, get_or, ap, sym, subst, ◌∙◌, arith, length-drop}
+use Rattle.std.proofs.Common.{◌≡◌, ◌<◌, ◌≤◌, ◌+◌, ◌-◌, ℕ, [], All, None, Some, length, take, drop, get_or, ap, subst, ◌∙◌, arith, length-drop}
 use Rattle.std.proofs.lemmas.List.{get_or-drop, take_all}
 use Rattle.std.proofs.lemmas.List.Elements.{All-more}
 use Rattle.csv_rows.specs.Records.{record_at}
@@ -8,7 +8,7 @@ use Rattle.par_model.specs.Refuse.{refusal}
 use Rattle.par_model.specs.declared.refusal.Refusal.{Refusal}
 use Rattle.partial_agg.specs.Rows.{IsAccepted, header_width}
 use Rattle.row_blocks.specs.Blocks.{Table}
-use Rattle.split_run.specs.Causes.{IsFirstRefused, IsRefused}
+use Rattle.split_run.specs.Causes.{IsFirstRefused}
 
 module _ (plan : Plan) (records : Table) where
   abbrev Accepted : Table → Type 0

@@ -1,5 +1,5 @@
 -- Rows that are added as they are found.
-use Rattle.std.proofs.Common.{◌≡◌, ◌≢◌, ◌<◌, ◌≤◌, ◌+◌, ◌-◌, ◌∙◌, ◌++◌, ℕ, ℤ, true, false, cond, fold, None, Option, Some, All, List, [], ◌∷◌, drop, get_or, length, map, take, refl, sym, ap, subst, inl, inr, arith, length-append, length-drop}
+use Rattle.std.proofs.Common.{◌≡◌, ◌<◌, ◌≤◌, ◌+◌, ◌∙◌, ◌++◌, ℕ, ℤ, true, false, cond, fold, None, Option, Some, All, List, [], ◌∷◌, drop, get_or, length, map, take, sym, ap, subst, arith, length-drop}
 use Rattle.std.specs.Prelude.{◌==◌}
 use Rattle.std.proofs.lemmas.Bool.{and_parts, eqb-true}
 use Rattle.std.proofs.lemmas.List.{drop_more, get_or-drop, take_more}

@@ -1,4 +1,4 @@
-use Rattle.std.proofs.Common.{◌≡◌, ◌∙◌, sym, ap, subst, unwrap_or}
+use Rattle.std.proofs.Common.{◌∙◌, sym, ap, subst, unwrap_or}
 use Rattle.lock_book.specs.History.{made_of}
 use Rattle.lock_book.proofs.Totals.{there}
 use Rattle.lock_book.proofs.Calls.{slot_taken, slot_known, fits_end, name_is, whole, whole_stands, same_pass}

@@ -1,4 +1,4 @@
-use Rattle.std.proofs.Common.{◌≡◌, ◌≤◌, ◌-◌, All, drop, length, take}
+use Rattle.std.proofs.Common.{◌≡◌, ◌≤◌, All, drop, length, take}
 use Rattle.partial_agg.specs.Rows.{IsAccepted}
 use Rattle.part_run.specs.Carrying.{spread}
 use Rattle.part_run.proofs.found.spread_left.Given as goal

@@ -1,4 +1,4 @@
-use Rattle.std.proofs.Common.{◌≡◌, ◌≤◌, ◌-◌, All, drop, length, take}
+use Rattle.std.proofs.Common.{◌≡◌, ◌≤◌, All, drop, length, take}
 use Rattle.partial_agg.specs.Groups.{with_rows}
 use Rattle.partial_agg.specs.Rows.{IsAccepted}
 use Rattle.split_run.proofs.found.add_left.Given as goal

@@ -1,4 +1,4 @@
-use Rattle.std.proofs.Common.{◌≡◌, ◌<◌, ◌∙◌, arith, length}
+use Rattle.std.proofs.Common.{◌<◌, ◌∙◌, arith, length}
 use Rattle.scan_claim.specs.Shown.{blocks_of, draws_of}
 use Rattle.split_run.proofs.Drawn.{accepted_piece, added_piece, columns_at, counted_piece, late_accepted, refused_at}
 use Rattle.split_run.proofs.hands.add_drawn.Goals as goal

@@ -1,4 +1,4 @@
-use Rattle.std.proofs.Common.{◌≡◌, ◌<◌, ◌≤◌, ◌+◌, ◌*◌, ◌∷◌, ◌∙◌, [], ℕ, All, List, ap, arith, drop, length, length-drop, refl, subst, sym, take}
+use Rattle.std.proofs.Common.{◌≡◌, ◌+◌, ◌∷◌, ◌∙◌, All, ap, arith, drop, length, length-drop, refl, subst, sym}
 use Rattle.std.proofs.lemmas.List.{take_all}
 use Rattle.std.proofs.lemmas.List.Elements.{All-nil}
 use Rattle.par_model.specs.Columns.{HasColumns}
@@ -7,7 +7,7 @@ use Rattle.partial_agg.specs.Rows.{IsAccepted, header_width}
 use Rattle.row_blocks.specs.Blocks.{Table}
 use Rattle.row_windows.specs.Stretch.{Stretch}
 use Rattle.split_run.specs.Causes.{AllAccepted, IsFirstRefused}
-use Rattle.split_run.specs.Pieces.{AreUnder, piece_records, piece_rows, rows_of}
+use Rattle.split_run.specs.Pieces.{piece_records, piece_rows, rows_of}
 use Rattle.split_run.proofs.FirstPiece.{accepted_next, count_next, first_here, read_piece}
 use Rattle.split_run.proofs.refused.first_in_pieces.Goals as goal
 
