@@ -3,7 +3,7 @@ use Rattle.std.proofs.Common.{◌≡◌, ◌≢◌, ℕ, zero, suc, ◌+◌, ◌
 use Rattle.word_map.specs.WordMap.{WordMap, at, HasJust}
 use Rattle.word_map.proofs.Maps.{just_has}
 use Rattle.region_words.specs.Parts.{Owned}
-use Rattle.dshash_core.specs.Key.{hash_of}
+use Rattle.dshash_core.specs.Key.{seeded_hash}
 use Rattle.dshash_core.specs.Chains.{word, words_at, most_words, IsChain, Among, AreDistinct, Item, item_at, each_below, ats}
 use Rattle.dshash_core.specs.Hung.{Hung, hung, AreHung, chain_places, chain_items, chain_of, with_chain, IsSpot, IsItemChunk}
 use Rattle.dshash_core.specs.Walk.{IsHungIn, IsTakenOut}
@@ -20,13 +20,13 @@ chain_positive w link a (x ∷ xs) c (inr m) = chain_positive w (w x) a xs c.2 m
 
 module _ (b : Inside) (h : Stands b) where
   abbrev Hang : Owned → (ℕ → List ℕ) → Type 0
-  Hang p chain = AreHung b.slice b.words b.buckets b.key_words b.value_words b.item_bytes p.words chain
+  Hang p chain = AreHung b.slice b.words b.buckets b.seed b.key_words b.value_words b.item_bytes p.words chain
 
   abbrev old_chain : ℕ → List ℕ
   old_chain i = chain_places b.part.words b.slice i
 
   abbrev look : Owned → Hung
-  look p = hung p b.slice b.words b.buckets b.key_words b.value_words b.item_bytes
+  look p = hung p b.slice b.words b.buckets b.seed b.key_words b.value_words b.item_bytes
 
   abbrev reading : Owned → ℕ → Item
   reading p a = item_at (word p.words) b.key_words b.value_words a
@@ -42,10 +42,10 @@ module _ (b : Inside) (h : Stands b) where
   seen_with p chain i items region hang l here others fresh kept =
       let rows : each_below (chain_items p.words b.slice b.key_words b.value_words) b.buckets ≡ set (each_below (chain_items b.part.words b.slice b.key_words b.value_words) b.buckets) i items =
       each_below-set (chain_items b.part.words b.slice b.key_words b.value_words) (chain_items p.words b.slice b.key_words b.value_words) b.buckets i items l
-      (ap (λ (c : List ℕ). map (reading p) c) (hung_places b.slice b.words b.buckets b.key_words b.value_words b.item_bytes p.words chain hang i l ∙ here) ∙ read_all (word p.words) b.key_words b.value_words items fresh)
-      (λ j k n. ap (λ (c : List ℕ). map (reading p) c) (hung_places b.slice b.words b.buckets b.key_words b.value_words b.item_bytes p.words chain hang j k ∙ others j n)
+      (ap (λ (c : List ℕ). map (reading p) c) (hung_places b.slice b.words b.buckets b.seed b.key_words b.value_words b.item_bytes p.words chain hang i l ∙ here) ∙ read_all (word p.words) b.key_words b.value_words items fresh)
+      (λ j k n. ap (λ (c : List ℕ). map (reading p) c) (hung_places b.slice b.words b.buckets b.seed b.key_words b.value_words b.item_bytes p.words chain hang j k ∙ others j n)
       ∙ map_same (reading b.part) (reading p) (old_chain j) (λ a m. kept j a k n m)) in
-      λ t. record { region = region t; slice = b.slice; words = b.words; layout = record { key_words = b.key_words; value_words = b.value_words; item_bytes = b.item_bytes }; chains = rows t }
+      λ t. record { region = region t; slice = b.slice; words = b.words; layout = record { seed = b.seed; key_words = b.key_words; value_words = b.value_words; item_bytes = b.item_bytes }; chains = rows t }
 
   -- what is left of a chain but for one item stands elsewhere than that
   rest_other : (i link : ℕ) (it x : Item) → i < b.buckets → (s : IsSpot (seen b) i link it) → Among x (s.before ++ s.after) → Among x (chain_of (seen b) i) × (x.at ≢ it.at)
@@ -76,7 +76,7 @@ module _ (b : Inside) (h : Stands b) where
         (apart_cases a (b.item_bytes / 8) place (b.item_bytes / 8) (h.apart j i a place r l q m far))
 
     written_hangs : Hang p old_chain
-    written_hangs = hung_kept b.slice b.words b.buckets b.key_words b.value_words b.item_bytes b.part.words p.words old_chain h w.keys
+    written_hangs = hung_kept b.slice b.words b.buckets b.seed b.key_words b.value_words b.item_bytes b.part.words p.words old_chain h w.keys
         (λ j r. ⊎_elim
         (λ (o : b.slice + b.words ≤ place). w.below (b.slice + j) (omega (arith, space)))
         (λ (o : place + b.item_bytes / 8 ≤ b.slice). w.behind (b.slice + j) (omega (arith, room, own)))
@@ -86,8 +86,8 @@ module _ (b : Inside) (h : Stands b) where
         (λ (far : a ≢ place). other_kept j a k r q far low (omega (arith, room)))
         (same_or_not a place))
 
-    pub written_stands : AreHung b.slice b.words b.buckets b.key_words b.value_words b.item_bytes p.words (chain_places p.words b.slice)
-    written_stands = rehang b.slice b.words b.buckets b.key_words b.value_words b.item_bytes p.words old_chain written_hangs
+    pub written_stands : AreHung b.slice b.words b.buckets b.seed b.key_words b.value_words b.item_bytes p.words (chain_places p.words b.slice)
+    written_stands = rehang b.slice b.words b.buckets b.seed b.key_words b.value_words b.item_bytes p.words old_chain written_hangs
 
     other_read : (j a : ℕ) → j < b.buckets → Among a (old_chain j) → a ≢ place → reading p a ≡ reading b.part a
     other_read j a r q far = item_at-same (word b.part.words) (word p.words) b.key_words b.value_words a (λ k low high. other_kept j a k r q far (omega arith) (omega (arith, room)))
@@ -117,11 +117,11 @@ module _ (b : Inside) (h : Stands b) where
   -- an item is hung in at the head of chain i
   module _ (p : Owned) (item : WordMap) (i place : ℕ) (it : Item) (l : i < b.buckets) (region : p.region ≡ b.part.region) (hung_in : IsHungIn b.part.words item p.words (b.slice + i) place)
       (just : HasJust item place (b.item_bytes / 8)) (whole : b.item_bytes % 8 ≡ 0) (low : 0 < place)
-      (is_item : item_at (word item) b.key_words b.value_words place ≡ it) (hashed : word item (place + 1) ≡ hash_of it.key) where
+      (is_item : item_at (word item) b.key_words b.value_words place ≡ it) (hashed : word item (place + 1) ≡ seeded_hash b.seed it.key) where
     in_item : (k : ℕ) → place ≤ k → k < place + b.item_bytes / 8 → IsSome (at item k)
     in_item k s e = just_has item place (b.item_bytes / 8) k just s e
 
-    pushes : IsPushed b.slice b.words b.buckets b.key_words b.value_words b.item_bytes b.part.words item p.words (b.slice + i) place
+    pushes : IsPushed b.slice b.words b.buckets b.seed b.key_words b.value_words b.item_bytes b.part.words item p.words (b.slice + i) place
     pushes = record {
       keeps = hung_in.keeps;
       gains = λ k s e. hung_in.gains k (in_item k s e);
@@ -134,11 +134,11 @@ module _ (b : Inside) (h : Stands b) where
     }
 
     pushed_hangs : Hang p (put old_chain i (place ∷ old_chain i))
-    pushed_hangs = hung_pushed b.slice b.words b.buckets b.key_words b.value_words b.item_bytes b.part.words item p.words old_chain i place h l low whole
-        (hashed ∙ ap (λ (x : Item). hash_of x.key) (sym is_item)) pushes
+    pushed_hangs = hung_pushed b.slice b.words b.buckets b.seed b.key_words b.value_words b.item_bytes b.part.words item p.words old_chain i place h l low whole
+        (hashed ∙ ap (λ (x : Item). seeded_hash b.seed x.key) (sym is_item)) pushes
 
-    pub pushed_stands : AreHung b.slice b.words b.buckets b.key_words b.value_words b.item_bytes p.words (chain_places p.words b.slice)
-    pushed_stands = rehang b.slice b.words b.buckets b.key_words b.value_words b.item_bytes p.words (put old_chain i (place ∷ old_chain i)) pushed_hangs
+    pub pushed_stands : AreHung b.slice b.words b.buckets b.seed b.key_words b.value_words b.item_bytes p.words (chain_places p.words b.slice)
+    pushed_stands = rehang b.slice b.words b.buckets b.seed b.key_words b.value_words b.item_bytes p.words (put old_chain i (place ∷ old_chain i)) pushed_hangs
 
     old_read : (j a : ℕ) → j < b.buckets → Among a (old_chain j) → reading p a ≡ reading b.part a
     old_read j a r q = item_at-same (word b.part.words) (word p.words) b.key_words b.value_words a (λ k s e.
@@ -173,12 +173,12 @@ module _ (b : Inside) (h : Stands b) where
     here_in = place_of b h i it l (spot_in b h i link it s)
 
     taken_hangs : Hang p (put old_chain i (ats s.before ++ ats s.after))
-    taken_hangs = hung_unlinked b.slice b.words b.buckets b.key_words b.value_words b.item_bytes b.part.words p.words old_chain i it.at (ats s.before) (ats s.after) h l splits
-        (subst (λ (x : ℕ). IsUnlinked b.slice b.words b.buckets b.key_words b.value_words b.item_bytes b.part.words p.words x it.at) (sym s.behind)
+    taken_hangs = hung_unlinked b.slice b.words b.buckets b.seed b.key_words b.value_words b.item_bytes b.part.words p.words old_chain i it.at (ats s.before) (ats s.after) h l splits
+        (subst (λ (x : ℕ). IsUnlinked b.slice b.words b.buckets b.seed b.key_words b.value_words b.item_bytes b.part.words p.words x it.at) (sym s.behind)
         record { keeps = out.keeps; below = out.below; linked = out.linked; others = out.others })
 
-    pub taken_stands : AreHung b.slice b.words b.buckets b.key_words b.value_words b.item_bytes p.words (chain_places p.words b.slice)
-    taken_stands = rehang b.slice b.words b.buckets b.key_words b.value_words b.item_bytes p.words (put old_chain i (ats s.before ++ ats s.after)) taken_hangs
+    pub taken_stands : AreHung b.slice b.words b.buckets b.seed b.key_words b.value_words b.item_bytes p.words (chain_places p.words b.slice)
+    taken_stands = rehang b.slice b.words b.buckets b.seed b.key_words b.value_words b.item_bytes p.words (put old_chain i (ats s.before ++ ats s.after)) taken_hangs
 
     -- the link is no word behind the first of an item
     link_far : (j a k : ℕ) → j < b.buckets → Among a (old_chain j) → a < k → k < a + b.item_bytes / 8 → k ≢ link
@@ -216,12 +216,12 @@ module _ (b : Inside) (h : Stands b) where
         (λ j a r far q. left_read j a r q (λ z. far (h.once j i it.at r l (subst (λ (y : ℕ). Among y (old_chain j)) z q) here_in)))
 
     -- and the words taken are the item
-    pub taken_item : IsItemChunk it.at item (record { key_words = b.key_words; value_words = b.value_words; item_bytes = b.item_bytes }) it
+    pub taken_item : IsItemChunk it.at item (record { seed = b.seed; key_words = b.key_words; value_words = b.value_words; item_bytes = b.item_bytes }) it
     taken_item =
         let read : reading b.part it.at ≡ it = reads b h i l it (spot_in b h i link it s) in
         record {
           reads = item_at-same (word b.part.words) (word item) b.key_words b.value_words it.at (λ k low high. out.taken k (omega arith) (omega (arith, room))) ∙ read;
-          hashed = out.taken (it.at + 1) (omega arith) (omega (arith, room)) ∙ (h.items i it.at l here_in).hashed ∙ ap (λ (x : Item). hash_of x.key) read;
+          hashed = out.taken (it.at + 1) (omega arith) (omega (arith, room)) ∙ (h.items i it.at l here_in).hashed ∙ ap (λ (x : Item). seeded_hash b.seed x.key) read;
         }
 
 each_nothing : (n : ℕ) → each_below {A = List Item} (λ i. []) n ≡ replicate n []
@@ -229,10 +229,10 @@ each_nothing zero = refl
 each_nothing (suc n) = λ t. [] ∷ each_nothing n t
 
 -- words of 0 stand for empty chains
-module _ (part : Owned) (slice words buckets key_words value_words item_bytes : ℕ) (low : 0 < slice) (room : buckets ≤ words) (fits : 2 + key_words + value_words ≤ item_bytes / 8)
+module _ (part : Owned) (slice words buckets seed key_words value_words item_bytes : ℕ) (low : 0 < slice) (room : buckets ≤ words) (fits : 2 + key_words + value_words ≤ item_bytes / 8)
     (owned : (k : ℕ) → slice ≤ k → k < slice + words → IsSome (at part.words k)) (below : (k : ℕ) → IsSome (at part.words k) → k < most_words)
     (zeros : (k : ℕ) → slice ≤ k → k < slice + buckets → word part.words k ≡ 0) where
-  empty_hangs : AreHung slice words buckets key_words value_words item_bytes part.words (λ i. [])
+  empty_hangs : AreHung slice words buckets seed key_words value_words item_bytes part.words (λ i. [])
   empty_hangs = record {
     low = low;
     room = room;
@@ -246,13 +246,13 @@ module _ (part : Owned) (slice words buckets key_words value_words item_bytes : 
     once = λ i j a l k m n. absurd m;
   }
 
-  pub empty_stands : AreHung slice words buckets key_words value_words item_bytes part.words (chain_places part.words slice)
-  empty_stands = rehang slice words buckets key_words value_words item_bytes part.words (λ i. []) empty_hangs
+  pub empty_stands : AreHung slice words buckets seed key_words value_words item_bytes part.words (chain_places part.words slice)
+  empty_stands = rehang slice words buckets seed key_words value_words item_bytes part.words (λ i. []) empty_hangs
 
   pub empty_chains : each_below (chain_items part.words slice key_words value_words) buckets ≡ replicate buckets []
   empty_chains =
       each_below-same (λ i. []) (chain_items part.words slice key_words value_words) buckets
-      (λ i l. ap (λ (c : List ℕ). map (item_at (word part.words) key_words value_words) c) (hung_places slice words buckets key_words value_words item_bytes part.words (λ j. []) empty_hangs i l))
+      (λ i l. ap (λ (c : List ℕ). map (item_at (word part.words) key_words value_words) c) (hung_places slice words buckets seed key_words value_words item_bytes part.words (λ j. []) empty_hangs i l))
       ∙ each_nothing buckets
 
 module _ (b : Inside) (h : Stands b) (v : Hung) (is : seen b ≡ v) where

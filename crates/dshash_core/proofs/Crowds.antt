@@ -3,7 +3,7 @@ use Rattle.std.proofs.Common.{◌≡◌, ◌≢◌, ℕ, zero, suc, ◌+◌, ◌
 use Rattle.std.proofs.lemmas.List.Elements.{filter-append}
 use Rattle.std.proofs.lemmas.Bool.{eq-eqb, eqb-true}
 use Rattle.std.specs.FinMap as fin
-use Rattle.dshash_core.specs.Key.{hash_of}
+use Rattle.dshash_core.specs.Key.{seeded_hash}
 use Rattle.dshash_core.specs.Chains.{Among, Item}
 use Rattle.dshash_core.specs.Hung.{Hung, chain_of, HasItem, HasNoItem}
 use Rattle.dshash_core.specs.Cells.{KeyMap, bucket_of, full_above, all_items, cells_of, AreCells}
@@ -57,21 +57,21 @@ module _ {S C R : Type 0} (step : Option S → C → Option S × R) (decoded : L
   before = cells_of decoded h.chains
 
   -- the keys of a bucket are the items of its chain
-  pub chain_keys : keys_in before size i ≡ length (chain_of h i)
+  pub chain_keys : keys_in h.layout.seed before size i ≡ length (chain_of h i)
   chain_keys =
-      kept_len decoded (λ q. bucket_of size (hash_of q) == i) (all_items h.chains) k.keyed
-      ∙ ap (λ (x : List Item). length x) (numbered (λ it. bucket_of size (hash_of it.key)) h.chains 0 (λ j it few m. let z : j ≡ 0 + j = omega arith in k.placed j it few m ∙ z) i i (omega arith) l)
+      kept_len decoded (λ q. bucket_of size (seeded_hash h.layout.seed q) == i) (all_items h.chains) k.keyed
+      ∙ ap (λ (x : List Item). length x) (numbered (λ it. bucket_of size (seeded_hash h.layout.seed it.key)) h.chains 0 (λ j it few m. let z : j ≡ 0 + j = omega arith in k.placed j it few m ∙ z) i i (omega arith) l)
 
-  module _ (key : List ℕ) (call : C) (longest : ℕ) (own : i ≡ bucket_of size (hash_of key)) where
-    beside : keys_in before size (bucket_of size (hash_of key)) ≡ length (chain_of h i)
-    beside = ap (keys_in before size) (sym own) ∙ chain_keys
+  module _ (key : List ℕ) (call : C) (longest : ℕ) (own : i ≡ bucket_of size (seeded_hash h.layout.seed key)) where
+    beside : keys_in h.layout.seed before size (bucket_of size (seeded_hash h.layout.seed key)) ≡ length (chain_of h i)
+    beside = ap (keys_in h.layout.seed before size) (sym own) ∙ chain_keys
 
     -- a chain with fewer items isn't crowded
-    pub short_chain : (longest ≤ length (chain_of h i) → ⊥) → IsCrowded step size before key call longest → ⊥
+    pub short_chain : (longest ≤ length (chain_of h i) → ⊥) → IsCrowded step h.layout.seed size before key call longest → ⊥
     short_chain few c = few (subst (λ (n : ℕ). longest ≤ n) beside c.long)
 
     -- and none is by a key that is there
-    pub key_there : (link place : ℕ) → HasItem h i link place key → IsCrowded step size before key call longest → ⊥
+    pub key_there : (link place : ℕ) → HasItem h i link place key → IsCrowded step h.layout.seed size before key call longest → ⊥
     key_there link place item c =
         let found : fin.get before key ≡ Some (decoded item.0.value) = subst (λ (q : List ℕ). fin.get before q ≡ Some (decoded item.0.value)) item.3 (spot_get size count value_words h k i l link item.0 item.1 decoded) in
         let no : would_insert before key (next_of step before key call) ≡ false = ap (λ (g : Option S). not (is_some g) && is_some (next_of step before key call)) found in
@@ -90,13 +90,13 @@ module _ {S C R : Type 0} (step : Option S → C → Option S × R) (decoded : L
       full_is = ap (λ (n : ℕ). nat_lt (full_above size) n && nat_lt size 20) (cells_len size count value_words h k decoded)
 
       pub crowded_as : (b : Bool) → b ≡ (is_some (step None call).0 && not (nat_lt (full_above size) count && nat_lt size 20)) → longest ≤ length (chain_of h i)
-          → IsTrue b ↔ IsCrowded step size before key call longest
+          → IsTrue b ↔ IsCrowded step h.layout.seed size before key call longest
       crowded_as b e long = (
         λ t. by (is_some (step None call).0) (nat_lt (full_above size) count && nat_lt size 20) refl refl (sym e ∙ t),
         λ c. e ∙ (λ t. (sym makes ∙ c.inserts) t && not ((sym full_is ∙ c.room) t)),
       )
         where
-          by : (made full : Bool) → is_some (step None call).0 ≡ made → (nat_lt (full_above size) count && nat_lt size 20) ≡ full → (made && not full) ≡ true → IsCrowded step size before key call longest
+          by : (made full : Bool) → is_some (step None call).0 ≡ made → (nat_lt (full_above size) count && nat_lt size 20) ≡ full → (made && not full) ≡ true → IsCrowded step h.layout.seed size before key call longest
           by true false m f t = record { inserts = makes ∙ m; room = full_is ∙ f; long = subst (λ (n : ℕ). longest ≤ n) (sym beside) long }
           by true true m f t = cc
           by false full m f t = cc

@@ -3,7 +3,7 @@ use Rattle.std.proofs.Common.{◌≡◌, ◌≢◌, ℕ, zero, suc, ◌+◌, ◌
 use Rattle.std.proofs.lemmas.List.{get_or-set_same, get_or-set_other}
 use Rattle.std.proofs.Math.ListN.{length-set}
 use Rattle.std.specs.FinMap as fin
-use Rattle.dshash_core.specs.Key.{hash_of}
+use Rattle.dshash_core.specs.Key.{seeded_hash}
 use Rattle.dshash_core.specs.Chains.{Among, Item}
 use Rattle.dshash_core.specs.Hung.{Hung, chain_of, with_chain, IsSpot, HasNoItem}
 use Rattle.dshash_core.specs.Cells.{KeyMap, bucket_of, full_above, IsRoomy, all_items, entry_of, cells_of, AreKeyed, AreCells}
@@ -59,10 +59,10 @@ in_all (c ∷ cs) (suc i) it l m = among_back it c (all_items cs) (in_all cs i i
 
 module _ (size count value_words : ℕ) (h : Hung) (k : AreCells size count value_words h) where
   -- a key that is not in its bucket is nowhere
-  pub nowhere : (i : ℕ) (key : List ℕ) → i ≡ bucket_of size (hash_of key) → HasNoItem h i key → (x : Item) → Among x (all_items h.chains) → x.key ≢ key
+  pub nowhere : (i : ℕ) (key : List ℕ) → i ≡ bucket_of size (seeded_hash h.layout.seed key) → HasNoItem h i key → (x : Item) → Among x (all_items h.chains) → x.key ≢ key
   nowhere i key is none x m e =
       let p = all_in h.chains x m in
-      let j : p.0 ≡ i = sym (k.placed p.0 x p.1 p.2) ∙ ap (λ (y : List ℕ). bucket_of size (hash_of y)) e ∙ sym is in
+      let j : p.0 ≡ i = sym (k.placed p.0 x p.1 p.2) ∙ ap (λ (y : List ℕ). bucket_of size (seeded_hash h.layout.seed y)) e ∙ sym is in
       none x (subst (λ (n : ℕ). Among x (chain_of h n)) j p.2) e
 
   module _ (i : ℕ) (l : i < length h.chains) where
@@ -73,13 +73,13 @@ module _ (size count value_words : ℕ) (h : Hung) (k : AreCells size count valu
         (λ (n : j ≢ i). inr (subst (λ (d : List Item). Among x d) (get_or-set_other h.chains i j c [] n) m))
         (same_or_not j i)
 
-    changed_placed : (c : List Item) → ((x : Item) → Among x c → bucket_of size (hash_of x.key) ≡ i) → (j : ℕ) (x : Item) → j < length (set h.chains i c) → Among x (chain_of (with_chain h i c) j) → bucket_of size (hash_of x.key) ≡ j
+    changed_placed : (c : List Item) → ((x : Item) → Among x c → bucket_of size (seeded_hash h.layout.seed x.key) ≡ i) → (j : ℕ) (x : Item) → j < length (set h.chains i c) → Among x (chain_of (with_chain h i c) j) → bucket_of size (seeded_hash h.layout.seed x.key) ≡ j
     changed_placed c own j x b m = ⊎_elim
         (λ (s : (j ≡ i) × Among x c). own x s.1 ∙ sym s.0)
         (λ (n : Among x (chain_of h j)). k.placed j x (let e : length (set h.chains i c) ≡ length h.chains = length-set h.chains i c in omega arith) n)
         (changed_chain c j x m)
 
-    module _ (it : Item) (own : bucket_of size (hash_of it.key) ≡ i) (fresh : (x : Item) → Among x (all_items h.chains) → x.key ≢ it.key) where
+    module _ (it : Item) (own : bucket_of size (seeded_hash h.layout.seed it.key) ≡ i) (fresh : (x : Item) → Among x (all_items h.chains) → x.key ≢ it.key) where
       in_front : (r : IsCut h.chains i) (x : Item) → Among x (r.front ++ (chain_of h i ++ r.back)) → x.key ≢ it.key
       in_front r x m = fresh x (subst (λ (d : List Item). Among x d) (sym r.whole) m)
 
@@ -89,7 +89,7 @@ module _ (size count value_words : ℕ) (h : Hung) (k : AreCells size count valu
           let next : all_items (set h.chains i (it ∷ chain_of h i)) ≡ r.front ++ it ∷ (chain_of h i ++ r.back) = r.changed (it ∷ chain_of h i) in
           record {
             buckets = length-set h.chains i (it ∷ chain_of h i) ∙ k.buckets;
-            placed = changed_placed (it ∷ chain_of h i) (λ x m. ⊎_elim (λ (e : x ≡ it). ap (λ (y : Item). bucket_of size (hash_of y.key)) e ∙ own) (λ n. k.placed i x l n) m);
+            placed = changed_placed (it ∷ chain_of h i) (λ x m. ⊎_elim (λ (e : x ≡ it). ap (λ (y : Item). bucket_of size (seeded_hash h.layout.seed y.key)) e ∙ own) (λ n. k.placed i x l n) m);
             keyed = subst (λ (d : List Item). AreKeyed d) (sym next) (keyed_pushed it r.front (chain_of h i ++ r.back) (subst (λ (d : List Item). AreKeyed d) r.whole k.keyed) (in_front r));
             counted = omega (arith, k.counted, ap length next, ap length r.whole, length-append r.front (it ∷ (chain_of h i ++ r.back)), length-append r.front (chain_of h i ++ r.back));
             values = k.values;
@@ -157,7 +157,7 @@ module _ (size count value_words : ℕ) (h : Hung) (k : AreCells size count valu
           record {
             buckets = length-set h.chains i (s.before ++ new ∷ s.after) ∙ k.buckets;
             placed = changed_placed (s.before ++ new ∷ s.after) (λ x m. ⊎_elim
-                (λ (e : x ≡ new). ap (λ (y : Item). bucket_of size (hash_of y.key)) e ∙ k.placed i it l here)
+                (λ (e : x ≡ new). ap (λ (y : Item). bucket_of size (seeded_hash h.layout.seed y.key)) e ∙ k.placed i it l here)
                 (λ (n : Among x (s.before ++ s.after)). k.placed i x l (subst (λ (d : List Item). Among x d) (sym s.chain) (among_more x it s.before s.after n)))
                 (among_split x new s.before s.after m));
             keyed = subst (λ (d : List Item). AreKeyed d) (sym (changed_whole r (new ∷ s.after))) (keyed_written it value (r.front ++ s.before) (s.after ++ r.back) (subst (λ (d : List Item). AreKeyed d) (whole r) k.keyed));

@@ -4,7 +4,7 @@ use Rattle.std.proofs.lemmas.Bool.{cases_lt}
 use Rattle.std.specs.List.{IsDistinct, AllByRecursion, list_any}
 use Rattle.std.proofs.lemmas.Map.Steps.{length-le_from_distinct_below}
 use Rattle.word_map.specs.WordMap.{WordMap, at}
-use Rattle.dshash_core.specs.Key.{hash_of}
+use Rattle.dshash_core.specs.Key.{seeded_hash}
 use Rattle.dshash_core.specs.Chains.{word, words_at, most_words, IsChain, Among, AreDistinct, link_behind}
 use Rattle.dshash_core.specs.Hung.{IsApart, IsItem, AreHung, chain_places}
 use Rattle.dshash_core.proofs.Chains.{same_or_not, words_at-same, places_is, chain_same}
@@ -81,9 +81,9 @@ unlinked_chain w v l a (x ∷ xs) ys c d e h =
     let far : l ≢ link_behind x xs = λ s. d.0 (link_behind x xs) (among_left (link_behind x xs) (x ∷ xs) (a ∷ ys) (behind_among x xs)) (sym s) in
     (h l (inl refl) far ∙ c.0, c.1, unlinked_chain w v x a xs ys c.2 d.1 e (λ k m n. h k (inr m) n))
 
-module _ (slice words buckets key_words value_words item_bytes : ℕ) where
+module _ (slice words buckets seed key_words value_words item_bytes : ℕ) where
   abbrev Hang : WordMap → (ℕ → List ℕ) → Type 0
-  Hang m chain = AreHung slice words buckets key_words value_words item_bytes m chain
+  Hang m chain = AreHung slice words buckets seed key_words value_words item_bytes m chain
 
   -- no chain has more items than there are words
   short : (m : WordMap) (chain : ℕ → List ℕ) → Hang m chain → (i : ℕ) → i < buckets → length (chain i) ≤ most_words
@@ -129,7 +129,7 @@ module _ (slice words buckets key_words value_words item_bytes : ℕ) where
     items = λ i a l p. let it = h.items i a l p in record {
       owned = λ k low high. keys k ∙ it.owned k low high;
       apart = it.apart;
-      hashed = items i a (a + 1) l p (omega arith) (omega arith) ∙ it.hashed ∙ ap hash_of (words_at-same (word m) (word v) (a + 2) key_words (λ k low high. sym (items i a k l p (omega arith) (omega arith))));
+      hashed = items i a (a + 1) l p (omega arith) (omega arith) ∙ it.hashed ∙ ap (seeded_hash seed) (words_at-same (word m) (word v) (a + 2) key_words (λ k low high. sym (items i a k l p (omega arith) (omega arith))));
       whole = it.whole;
     };
     apart = h.apart;
@@ -149,7 +149,7 @@ module _ (slice words buckets key_words value_words item_bytes : ℕ) where
 
   -- an item that is hung in is the first of its chain
   pub hung_pushed : (m item v : WordMap) (chain : ℕ → List ℕ) (i a : ℕ) → Hang m chain → i < buckets → 0 < a → item_bytes % 8 ≡ 0
-      → word item (a + 1) ≡ hash_of (words_at (word item) (a + 2) key_words)
+      → word item (a + 1) ≡ seeded_hash seed (words_at (word item) (a + 2) key_words)
       → IsPushed m item v (slice + i) a → Hang v (put chain i (a ∷ chain i))
   hung_pushed m item v chain i a h l low whole hashed p = record {
     low = h.low;
@@ -162,7 +162,7 @@ module _ (slice words buckets key_words value_words item_bytes : ℕ) where
         (λ (e : j ≡ i). subst (λ (c : List ℕ). AreDistinct c) (sym (put_same chain i (a ∷ chain i) j e)) ((λ b b_in s. new i b l b_in s), h.distinct i l))
         (λ (n : j ≢ i). subst (λ (c : List ℕ). AreDistinct c) (sym (put_other chain i (a ∷ chain i) j n)) (h.distinct j k))
         (same_or_not j i);
-    items = λ j b k b_in. ⊎_elim (λ (s : (b ≡ a) × (j ≡ i)). subst (λ (x : ℕ). IsItem v slice words key_words item_bytes x) (sym s.0) fresh) (λ (q : Among b (chain j)). kept j b k q) (either j b b_in);
+    items = λ j b k b_in. ⊎_elim (λ (s : (b ≡ a) × (j ≡ i)). subst (λ (x : ℕ). IsItem v slice words seed key_words item_bytes x) (sym s.0) fresh) (λ (q : Among b (chain j)). kept j b k q) (either j b b_in);
     apart = λ j k b d j_in k_in b_in d_in n. ⊎_elim
         (λ (s : (b ≡ a) × (j ≡ i)). ⊎_elim
         (λ (t : (d ≡ a) × (k ≡ i)). absurd (n (s.0 ∙ sym t.0)))
@@ -245,7 +245,7 @@ module _ (slice words buckets key_words value_words item_bytes : ℕ) where
       body_new : (k : ℕ) → a < k → k < a + item_bytes / 8 → word item k ≡ word v k
       body_new k s t = sym (p.body k s t)
 
-      fresh : IsItem v slice words key_words item_bytes a
+      fresh : IsItem v slice words seed key_words item_bytes a
       fresh = record {
         owned = p.gains;
         apart = (
@@ -258,15 +258,15 @@ module _ (slice words buckets key_words value_words item_bytes : ℕ) where
               (λ (o : a + item_bytes / 8 ≤ slice). o)
               (cases_lt slice (a + item_bytes / 8)),
         );
-        hashed = p.body (a + 1) (omega arith) (omega (arith, room)) ∙ hashed ∙ ap hash_of (words_at-same (word item) (word v) (a + 2) key_words (λ k s t. body_new k (omega arith) (omega (arith, room))));
+        hashed = p.body (a + 1) (omega arith) (omega (arith, room)) ∙ hashed ∙ ap (seeded_hash seed) (words_at-same (word item) (word v) (a + 2) key_words (λ k s t. body_new k (omega arith) (omega (arith, room))));
         whole = whole;
       }
 
-      kept : (j b : ℕ) → j < buckets → Among b (chain j) → IsItem v slice words key_words item_bytes b
+      kept : (j b : ℕ) → j < buckets → Among b (chain j) → IsItem v slice words seed key_words item_bytes b
       kept j b k q = let it = h.items j b k q in record {
         owned = λ x s t. p.keeps x (it.owned x s t);
         apart = it.apart;
-        hashed = word_kept j b k q (b + 1) (omega arith) (omega (arith, room)) ∙ it.hashed ∙ ap hash_of (words_at-same (word m) (word v) (b + 2) key_words (λ x s t. sym (word_kept j b k q x (omega arith) (omega (arith, room)))));
+        hashed = word_kept j b k q (b + 1) (omega arith) (omega (arith, room)) ∙ it.hashed ∙ ap (seeded_hash seed) (words_at-same (word m) (word v) (b + 2) key_words (λ x s t. sym (word_kept j b k q x (omega arith) (omega (arith, room)))));
         whole = it.whole;
       }
 
@@ -391,13 +391,13 @@ module _ (slice words buckets key_words value_words item_bytes : ℕ) where
           (chain_same (word m) (word v) (word m (slice + j)) (chain j) (h.linked j k) (λ b q.
           head_kept j b k q (λ e. n (h.once j i a k l (subst (λ (x : ℕ). Among x (chain j)) e q) a_in)) (link_own j b k n q))))
 
-      kept : (j b : ℕ) → j < buckets → Among b (chain j) → b ≢ a → IsItem v slice words key_words item_bytes b
+      kept : (j b : ℕ) → j < buckets → Among b (chain j) → b ≢ a → IsItem v slice words seed key_words item_bytes b
       kept j b k q n =
           let it = h.items j b k q in
           let body : (x : ℕ) → b < x → x < b + item_bytes / 8 → word v x ≡ word m x = λ x s e. u.others x (not_a j b k q n x (omega arith) e) (link_far j b k q x s e) in
           record {
             owned = λ x s e. u.keeps x (it.owned x s e) (not_a j b k q n x s e);
             apart = it.apart;
-            hashed = body (b + 1) (omega arith) (omega (arith, room)) ∙ it.hashed ∙ ap hash_of (words_at-same (word m) (word v) (b + 2) key_words (λ x s e. sym (body x (omega arith) (omega (arith, room)))));
+            hashed = body (b + 1) (omega arith) (omega (arith, room)) ∙ it.hashed ∙ ap (seeded_hash seed) (words_at-same (word m) (word v) (b + 2) key_words (λ x s e. sym (body x (omega arith) (omega (arith, room)))));
             whole = it.whole;
           }

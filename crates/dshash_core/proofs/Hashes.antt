@@ -5,7 +5,7 @@ use Rattle.std.specs.Int.{byte_at, bytes_low_first}
 use Rattle.std.specs.Int.Bits.{xor_zero_r}
 use Rattle.std.proofs.Math.Nat.{mod-eq_of_lt, div-div-eq-div-mul}
 use Rattle.std.proofs.lemmas.Nat.{mul-mod_first, mul-mod_second, pow-add}
-use Rattle.dshash_core.specs.Key.{fnv_step}
+use Rattle.dshash_core.specs.Key.{fnv_step, hash_of, seeded_hash}
 
 -- the hash goes on over the k bytes of a word from byte i on
 abbrev pub over : ℕ → ℕ → ℕ → ℕ → ℕ
@@ -90,3 +90,11 @@ next_low left rest some low =
     let more : left ≡ left - 1 + 1 = omega arith in
     let p : 256 ^ left ≡ 256 ^ (left - 1) * 256 = ap (λ (n : ℕ). 256 ^ n) more ∙ pow-add 256 (left - 1) 1 in
     omega arith
+
+-- with the seed 0 a key has the hash that it has without one
+zero_seed : (key : List ℕ) → hash_of key ≡ seeded_hash 0 key
+unfolding seeded_hash
+zero_seed key = refl
+
+pub unseeded : (seed : ℕ) (key : List ℕ) → seed ≡ 0 → hash_of key ≡ seeded_hash seed key
+unseeded seed key none = zero_seed key ∙ ap (λ (s : ℕ). seeded_hash s key) (sym none)

@@ -3,7 +3,7 @@ use Rattle.std.proofs.Common.{◌≡◌, ◌≢◌, ℕ, zero, suc, ◌+◌, ◌
 use Rattle.std.proofs.lemmas.List.{map-append, append-nil, length-map}
 use Rattle.std.proofs.Math.Seq.{take-suc, take-length}
 use Rattle.std.specs.FinMap as fin
-use Rattle.dshash_core.specs.Key.{hash_of}
+use Rattle.dshash_core.specs.Key.{seeded_hash}
 use Rattle.dshash_core.specs.Chains.{Among, Item}
 use Rattle.dshash_core.specs.Hung.{Hung, Layout, IsItemChunk, chain_of, with_chain}
 use Rattle.region_words.specs.Parts.{Owned}
@@ -80,12 +80,12 @@ held {S} decoded items k x m =
     ap (λ (its : List Item). fin.get (table_of decoded its) x.key) r.2 ∙ get_found decoded x r.0 r.1 (subst (λ (its : List Item). AreKeyed its) r.2 k)
 
 -- an item with a new key is taken in
-pub taken_in : {S : Type 0} (decoded : List ℕ → S) (size count value_words : ℕ) (h new : Hung) → AreCells size count value_words h → (i hash : ℕ) (it : Item) → hash ≡ hash_of it.key → i ≡ bucket_of size hash
+pub taken_in : {S : Type 0} (decoded : List ℕ → S) (size count value_words : ℕ) (h new : Hung) → AreCells size count value_words h → (i hash : ℕ) (it : Item) → hash ≡ seeded_hash h.layout.seed it.key → i ≡ bucket_of size hash
     → fin.contains_key (cells_of decoded h.chains) it.key ≡ false → IsRoomy size (count + 1) → new ≡ with_chain h i (it ∷ chain_of h i)
     → AreCells size (count + 1) value_words new × (cells_of decoded new.chains ≡ fin.insert (cells_of decoded h.chains) it.key (decoded it.value))
 taken_in {S} decoded size count value_words h new k i hash it is place none roomy e =
     let l : i < length h.chains = subst (λ (j : ℕ). j < length h.chains) (sym place) (bucket_in size count value_words h k hash) in
-    let own : bucket_of size (hash_of it.key) ≡ i = ap (bucket_of size) (sym is) ∙ sym place in
+    let own : bucket_of size (seeded_hash h.layout.seed it.key) ≡ i = ap (bucket_of size) (sym is) ∙ sym place in
     let fresh : (x : Item) → Among x (all_items h.chains) → x.key ≢ it.key = λ x m s.
     let t : true ≡ false = sym (ap (λ (o : Option S). is_some o) (held decoded (all_items h.chains) k.keyed x m)) ∙ ap (λ (q : List ℕ). fin.contains_key (cells_of decoded h.chains) q) s ∙ none in cc in (
       subst (λ (u : Hung). AreCells size (count + 1) value_words u) (sym e) (pushed_cells size count value_words h k i l it own fresh roomy),

@@ -4,7 +4,7 @@ use Rattle.std.specs.FinMap as fin
 use Rattle.std.proofs.lemmas.Nat.{mod_below, pow_pos}
 use Rattle.std.proofs.lemmas.Bool.Decides.{nat_tests}
 use Rattle.dshash_core.proofs.Maps.{insert_same, remove_missing}
-use Rattle.dshash_core.specs.Key.{hash_of}
+use Rattle.dshash_core.specs.Key.{seeded_hash}
 use Rattle.dshash_core.specs.Chains.{Among, Item}
 use Rattle.dshash_core.specs.Hung.{Hung, chain_of, with_chain, HasNoItem, HasItem}
 use Rattle.dshash_core.specs.Cells.{KeyMap, bucket_of, buckets_of, full_above, IsRoomy, all_items, cells_of, AreCells}
@@ -105,7 +105,7 @@ module _ {S C R : Type 0} (step : Option S → C → Option S × R) (decoded : L
     }
 
   -- what it makes of a key that is not
-  module _ (own : i ≡ bucket_of size (hash_of key)) (none : HasNoItem h i key) (next : Option S) (reply : R) (is : (next, reply) ≡ step None call) where
+  module _ (own : i ≡ bucket_of size (seeded_hash h.layout.seed key)) (none : HasNoItem h i key) (next : Option S) (reply : R) (is : (next, reply) ≡ step None call) where
     fresh : (x : Item) → Among x (all_items h.chains) → x.key ≢ key
     fresh = nowhere size count value_words h k i key own none
 
@@ -162,7 +162,7 @@ module _ {S C R : Type 0} (step : Option S → C → Option S × R) (decoded : L
     inserted new state it e key_is reads has room n =
         let w : would_insert before key (next_of step before key call) ≡ true = inserts state e in
         let other : (x : Item) → Among x (all_items h.chains) → x.key ≢ it.key = λ x m s. fresh x m (s ∙ key_is) in
-        let place : bucket_of size (hash_of it.key) ≡ i = ap (λ (q : List ℕ). bucket_of size (hash_of q)) key_is ∙ sym own in
+        let place : bucket_of size (seeded_hash h.layout.seed it.key) ≡ i = ap (λ (q : List ℕ). bucket_of size (seeded_hash h.layout.seed q)) key_is ∙ sym own in
         let roomy : IsRoomy size (count + 1) = may_grow size count k.roomy room in
         subst (λ (u : Hung). IsCalled step decoded size (count + 1) value_words h u key call spare reply false false) (sym n) record {
           same = refl;

@@ -27,11 +27,11 @@ among_here x (y ∷ xs) ys = inr (among_here x xs ys)
 
 -- the words of the fields stand for chains
 abbrev pub Stands : Inside → Type 0
-Stands b = AreHung b.slice b.words b.buckets b.key_words b.value_words b.item_bytes b.part.words (chain_places b.part.words b.slice)
+Stands b = AreHung b.slice b.words b.buckets b.seed b.key_words b.value_words b.item_bytes b.part.words (chain_places b.part.words b.slice)
 
 -- what contracts see of the fields
 abbrev pub seen : Inside → Hung
-seen b = hung b.part b.slice b.words b.buckets b.key_words b.value_words b.item_bytes
+seen b = hung b.part b.slice b.words b.buckets b.seed b.key_words b.value_words b.item_bytes
 
 chain_first : (w : ℕ → ℕ) (link : ℕ) (items : List Item) → IsChain w link (ats items) → link ≡ first_place items
 chain_first w link [] c = c
@@ -131,7 +131,7 @@ module _ (b : Inside) (h : Stands b) where
   pub place_of : (i : ℕ) (it : Item) → i < b.buckets → Among it (chain_of value i) → Among it.at (chain_places b.part.words b.slice i)
   place_of i it l m = subst (λ (c : List ℕ). Among it.at c) (places_are i l) (at_among it (chain_of value i) m)
 
-  pub item_of : (i : ℕ) (it : Item) → i < b.buckets → Among it (chain_of value i) → IsItem b.part.words b.slice b.words b.key_words b.item_bytes it.at
+  pub item_of : (i : ℕ) (it : Item) → i < b.buckets → Among it (chain_of value i) → IsItem b.part.words b.slice b.words b.seed b.key_words b.item_bytes it.at
   item_of i it l m = h.items i it.at l (place_of i it l m)
 
   pub owned_link : (i : ℕ) → i < b.buckets → IsSome (at b.part.words (b.slice + i))
@@ -141,10 +141,10 @@ module _ (b : Inside) (h : Stands b) where
   link_fits i l = let small : b.slice + i < most_words = h.below (b.slice + i) (owned_link i l) in omega (arith, most_is)
 
   -- an item's words are below the greatest number of words
-  pub item_small : (a k : ℕ) → IsItem b.part.words b.slice b.words b.key_words b.item_bytes a → a ≤ k → k < a + b.item_bytes / 8 → k < 67108864
+  pub item_small : (a k : ℕ) → IsItem b.part.words b.slice b.words b.seed b.key_words b.item_bytes a → a ≤ k → k < a + b.item_bytes / 8 → k < 67108864
   item_small a k it low high = let small : k < most_words = h.below k (it.owned k low high) in omega (arith, most_is)
 
-  pub readable : (i a : ℕ) → i < b.buckets → Among a (chain_places b.part.words b.slice i) → IsReadable b.part.words b.key_words a
+  pub readable : (i a : ℕ) → i < b.buckets → Among a (chain_places b.part.words b.slice i) → IsReadable b.part.words b.seed b.key_words a
   readable i a l m =
       let it = h.items i a l m in
       let room : 2 + b.key_words + b.value_words ≤ b.item_bytes / 8 = h.fits in
@@ -246,13 +246,13 @@ module _ (b : Inside) (h : Stands b) where
         (sym (word_is b.part.words (b.slice + i) link e)
         ∙ chain_first (word b.part.words) (word b.part.words (b.slice + i)) (chain_of value i) (subst (λ (c : List ℕ). IsChain (word b.part.words) (word b.part.words (b.slice + i)) c) (sym (places_are i (bucket_in i l))) (h.linked i (bucket_in i l))))
 
-    pub held_item : (it : Item) → Holds v it → IsItem b.part.words b.slice b.words b.key_words b.item_bytes it.at × (item_at (word b.part.words) b.key_words b.value_words it.at ≡ it)
+    pub held_item : (it : Item) → Holds v it → IsItem b.part.words b.slice b.words b.seed b.key_words b.item_bytes it.at × (item_at (word b.part.words) b.key_words b.value_words it.at ≡ it)
     held_item it m =
         let here : Among it (chain_of value m.0) = subst (λ (u : Hung). Among it (chain_of u m.0)) (sym is) m.2 in
         (item_of m.0 it (bucket_in m.0 m.1) here, reads m.0 (bucket_in m.0 m.1) it here)
 
-    pub held_at : (place : ℕ) → (it : Item) × Holds v it × (it.at ≡ place) → IsItem b.part.words b.slice b.words b.key_words b.item_bytes place
-    held_at place m = subst (λ (a : ℕ). IsItem b.part.words b.slice b.words b.key_words b.item_bytes a) m.2 (held_item m.0 m.1).0
+    pub held_at : (place : ℕ) → (it : Item) × Holds v it × (it.at ≡ place) → IsItem b.part.words b.slice b.words b.seed b.key_words b.item_bytes place
+    held_at place m = subst (λ (a : ℕ). IsItem b.part.words b.slice b.words b.seed b.key_words b.item_bytes a) m.2 (held_item m.0 m.1).0
 
     pub next_is : (i place link : ℕ) → i < length v.chains → at b.part.words place ≡ Some link → (before after : List Item) (it : Item) → chain_of v i ≡ before ++ it ∷ after → it.at ≡ place → link ≡ first_place after
     next_is i place link l e before after it splits s =

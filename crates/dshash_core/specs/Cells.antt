@@ -6,7 +6,7 @@ use Rattle.std.specs.Cmp.Lexicographic.{slice_cmp}
 use Rattle.std.specs.FinMap as fin
 use Rattle.atomic_table.specs.Seated.{TableId, table_id_coded}
 use Rattle.word_map.specs.WordMap.{WordMap}
-use Rattle.dshash_core.specs.Key.{hash_of}
+use Rattle.dshash_core.specs.Key.{seeded_hash}
 use Rattle.dshash_core.specs.Chains.{Among, Item}
 use Rattle.dshash_core.specs.Hung.{Hung, IsItemChunk, Layout, chain_of}
 
@@ -14,12 +14,13 @@ use Rattle.dshash_core.specs.Hung.{Hung, IsItemChunk, Layout, chain_of}
 abbrev pub KeyMap : Type 0 → Type 0
 KeyMap S = fin.FinMap (slice_cmp nat_cmp) S
 
--- what contracts see of a partition: its region, the words of its bucket slice, the items' shape, its size, and the
--- states under its keys
+-- what contracts see of a partition: its region, the words of its bucket slice, the items' shape and the seed of their
+-- hashes, its size, and the states under its keys
 pub record PartitionView (S : Type 0) : Type 0 where
   pub region : TableId
   pub slice : ℕ
   pub words : ℕ
+  pub seed : ℕ
   pub key_words : ℕ
   pub item_bytes : ℕ
   pub size : ℕ
@@ -27,7 +28,7 @@ pub record PartitionView (S : Type 0) : Type 0 where
 
 -- the shape of a partition's items, with values of this many words
 abbrev pub layout_of : {S : Type 0} → PartitionView S → ℕ → Layout
-layout_of p value_words = record { key_words = p.key_words; value_words = value_words; item_bytes = p.item_bytes }
+layout_of p value_words = record { seed = p.seed; key_words = p.key_words; value_words = value_words; item_bytes = p.item_bytes }
 
 -- the partition has taken in the item that the words at a place are: its key has its state, and all else is as before
 abbrev pub TakesIn : {S : Type 0} → (List ℕ → S) → ℕ → PartitionView S → PartitionView S → ℕ → WordMap → Type 0
@@ -37,9 +38,9 @@ TakesIn decoded value_words old new place words =
 -- the code by which proofs distinguish such values
 abbrev pub partition_code : {S : Type 0} → Coded S → Coded (PartitionView S)
 partition_code {S} s =
-    code_by (TableId × (ℕ × (ℕ × (ℕ × (ℕ × (ℕ × KeyMap S)))))) (coded× table_id_coded (coded× coded_ℕ (coded× coded_ℕ (coded× coded_ℕ (coded× coded_ℕ (coded× coded_ℕ (fin.code (coded_list coded_ℕ) s)))))))
-    (λ p. (p.region, (p.slice, (p.words, (p.key_words, (p.item_bytes, (p.size, p.cells)))))))
-    (λ q. record { region = q.0; slice = q.1.0; words = q.1.1.0; key_words = q.1.1.1.0; item_bytes = q.1.1.1.1.0; size = q.1.1.1.1.1.0; cells = q.1.1.1.1.1.1 }) (λ _. refl)
+    code_by (TableId × (ℕ × (ℕ × (ℕ × (ℕ × (ℕ × (ℕ × KeyMap S))))))) (coded× table_id_coded (coded× coded_ℕ (coded× coded_ℕ (coded× coded_ℕ (coded× coded_ℕ (coded× coded_ℕ (coded× coded_ℕ (fin.code (coded_list coded_ℕ) s))))))))
+    (λ p. (p.region, (p.slice, (p.words, (p.seed, (p.key_words, (p.item_bytes, (p.size, p.cells))))))))
+    (λ q. record { region = q.0; slice = q.1.0; words = q.1.1.0; seed = q.1.1.1.0; key_words = q.1.1.1.1.0; item_bytes = q.1.1.1.1.1.0; size = q.1.1.1.1.1.1.0; cells = q.1.1.1.1.1.1.1 }) (λ _. refl)
 
 -- the number of the partition to which a hash belongs: its top 7 bits (dshash.c, PARTITION_FOR_HASH)
 abbrev pub partition_of : ℕ → ℕ
@@ -88,7 +89,7 @@ AreKeyed (it ∷ items) = ((x : Item) → Among x items → x.key ≢ it.key) ×
 -- `count` items in all
 pub record AreCells (size count value_words : ℕ) (h : Hung) : Type 0 where
   pub buckets : length h.chains ≡ buckets_of size
-  pub placed : (i : ℕ) (it : Item) → i < length h.chains → Among it (chain_of h i) → bucket_of size (hash_of it.key) ≡ i
+  pub placed : (i : ℕ) (it : Item) → i < length h.chains → Among it (chain_of h i) → bucket_of size (seeded_hash h.layout.seed it.key) ≡ i
   pub keyed : AreKeyed (all_items h.chains)
   pub counted : count ≡ length (all_items h.chains)
   pub values : h.layout.value_words ≡ value_words
@@ -100,6 +101,7 @@ partition_seen decoded h size = record {
   region = h.region;
   slice = h.slice;
   words = h.words;
+  seed = h.layout.seed;
   key_words = h.layout.key_words;
   item_bytes = h.layout.item_bytes;
   size = size;

@@ -4,7 +4,7 @@ use Rattle.std.specs.Prelude.{◌≡◌, ℕ, ◌<◌, ◌≤◌, ◌==◌, Bool
 use Rattle.std.specs.FinMap as fin
 use Rattle.atomic_table.specs.Seated.{TableId}
 use Rattle.region_words.specs.declared.chunk.Chunk.{Chunk}
-use Rattle.dshash_core.specs.Key.{hash_of}
+use Rattle.dshash_core.specs.Key.{seeded_hash}
 use Rattle.dshash_core.specs.Cells.{KeyMap, bucket_of, full_above}
 use Rattle.dshash_core.specs.declared.outcome.CoreOut.{CoreOut}
 use Rattle.dshash_core.specs.declared.outcome.CoreOut.TheVariants.{Done, NeedItem, TooFull}
@@ -66,15 +66,15 @@ module _ {S C R : Type 0} (step : Option S → C → Option S × R) (size : ℕ)
   IsOutcome NeedItem after = IsNeedItem after
   IsOutcome (TooFull told back) after = IsTooFull told (is_some back) after
 
--- the number of keys of the map that are in a bucket of a partition of a size
-abbrev pub keys_in : {S : Type 0} → KeyMap S → ℕ → ℕ → ℕ
-keys_in m size bucket = fin.len (fin.retain_keys m (λ k. bucket_of size (hash_of k) == bucket))
+-- the number of keys of the map that are in a bucket of a partition of a size, with hashes of this seed
+abbrev pub keys_in : {S : Type 0} → ℕ → KeyMap S → ℕ → ℕ → ℕ
+keys_in seed m size bucket = fin.len (fin.retain_keys m (λ k. bucket_of size (seeded_hash seed k) == bucket))
 
 -- the call would insert, the partition need not grow first, and the key's bucket has `longest` keys or more
-pub record IsCrowded {S C R : Type 0} (step : Option S → C → Option S × R) (size : ℕ) (cells : KeyMap S) (key : List ℕ) (call : C) (longest : ℕ) : Type 0 where
+pub record IsCrowded {S C R : Type 0} (step : Option S → C → Option S × R) (seed size : ℕ) (cells : KeyMap S) (key : List ℕ) (call : C) (longest : ℕ) : Type 0 where
   pub inserts : would_insert cells key (next_of step cells key call) ≡ true
   pub room : is_full cells size ≡ false
-  pub long : longest ≤ keys_in cells size (bucket_of size (hash_of key))
+  pub long : longest ≤ keys_in seed cells size (bucket_of size (seeded_hash seed key))
 
 -- what is handed out: the spare item itself, if it was not taken, and a whole item of the region, if one was freed
 abbrev pub HandsOut : {O S C R : Type 0} → TableId → ℕ → Option Chunk → CoreOut O S C R → Type 0

@@ -1,14 +1,14 @@
 -- What a walk along a chain finds.
 use Rattle.std.specs.Prelude.{◌≡◌, ◌≢◌, ℕ, ◌+◌, ◌<◌, ◌≤◌, List, ◌∷◌, ◌++◌, length, IsSome}
 use Rattle.word_map.specs.WordMap.{WordMap, at}
-use Rattle.dshash_core.specs.Key.{hash_of}
+use Rattle.dshash_core.specs.Key.{seeded_hash}
 use Rattle.dshash_core.specs.Chains.{word, words_at, most_words, places, Among, link_behind}
 
 -- a walk can compare the item at a with keys of `key_words` words: the map has its words, and its hash is that of its
 -- key
-pub record IsReadable (m : WordMap) (key_words a : ℕ) : Type 0 where
+pub record IsReadable (m : WordMap) (seed key_words a : ℕ) : Type 0 where
   pub owned : (k : ℕ) → a ≤ k → k < a + (2 + key_words) → IsSome (at m k)
-  pub hashed : word m (a + 1) ≡ hash_of (words_at (word m) (a + 2) key_words)
+  pub hashed : word m (a + 1) ≡ seeded_hash seed (words_at (word m) (a + 2) key_words)
 
 -- the places of the items on the chain from the word `link`
 abbrev pub chain_from : WordMap → ℕ → List ℕ

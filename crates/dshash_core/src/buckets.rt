@@ -8,7 +8,7 @@
 
 ghost use Rattle.std.specs.Prelude.{◌≡◌, ◌≢◌, ℕ, ◌+◌, ◌*◌, ◌/◌, ◌<◌, ◌≤◌, List, [], ◌∷◌, ◌++◌, ◌^◌, ◌↔◌, length, MatchOption, IfSome, IfNone, IsTrue};
 ghost use Rattle.std.specs.List.{All};
-ghost use Rattle.dshash_core.specs.Key.{hash_of};
+ghost use Rattle.dshash_core.specs.Key.{seeded_hash};
 ghost use Rattle.dshash_core.specs.Chains.{word, words_at, Item, item_at};
 ghost use Rattle.dshash_core.specs.Cells.{all_items};
 ghost use Rattle.dshash_core.specs.Hung.{Hung, Layout, empty_hung, chain_of, with_chain, IsSpot, Holds, HasItem, HasNoItem, IsItemChunk, IsFirst, first_place};
@@ -29,6 +29,8 @@ pub struct Buckets {
     words: u64,
     /// The number of buckets.
     buckets: u64,
+    /// The seed of the items' hashes.
+    seed: u64,
     /// The words of a key.
     key_words: u64,
     /// The words of a value.
@@ -44,9 +46,9 @@ impl Model for Buckets {
 
     ghost coded = { hung_code };
 
-    ghost view = { λ b. hung b.part b.slice b.words b.buckets b.key_words b.value_words b.item_bytes };
+    ghost view = { λ b. hung b.part b.slice b.words b.buckets b.seed b.key_words b.value_words b.item_bytes };
 
-    ghost invariant = { λ b. AreHung b.slice b.words b.buckets b.key_words b.value_words b.item_bytes b.part.words (chain_places b.part.words b.slice) };
+    ghost invariant = { λ b. AreHung b.slice b.words b.buckets b.seed b.key_words b.value_words b.item_bytes b.part.words (chain_places b.part.words b.slice) };
 }
 
 impl Buckets {
@@ -55,6 +57,7 @@ impl Buckets {
         r: &Region,
         slice: Chunk,
         buckets: u64,
+        seed: u64,
         key_words: u64,
         value_words: u64,
         item_bytes: u64,
@@ -62,7 +65,7 @@ impl Buckets {
         requires here { slice.part.region ≡ r.now }
         requires room { buckets ≤ slice.bytes / 8 }
         requires fits { 2 + key_words + value_words ≤ item_bytes / 8 }
-        ensures { result ≡ empty_hung r.now slice.at (slice.bytes / 8) buckets key_words value_words item_bytes }
+        ensures { result ≡ empty_hung r.now slice.at (slice.bytes / 8) buckets seed key_words value_words item_bytes }
     {
         let Chunk {
             at,
@@ -76,6 +79,7 @@ impl Buckets {
             slice: at.word(),
             words: bytes / 8,
             buckets,
+            seed,
             key_words,
             value_words,
             item_bytes,
@@ -87,6 +91,13 @@ impl Buckets {
         ensures { result ≡ length self.now.chains }
     {
         self.buckets
+    }
+
+    /// The seed of the items' hashes.
+    pub fn seed(&self) -> u64
+        ensures { result ≡ self.now.layout.seed }
+    {
+        self.seed
     }
 
     /// The words of a key.
@@ -120,7 +131,7 @@ impl Buckets {
         requires here { self.old.region ≡ r.now }
         requires bucket { bucket < length self.old.chains }
         requires key { length key.now ≡ self.old.layout.key_words }
-        requires hash { hash ≡ hash_of key.now }
+        requires hash { hash ≡ seeded_hash self.old.layout.seed key.now }
         ensures same { self.new ≡ self.old }
         ensures found { MatchOption result (HasNoItem self.old bucket key.now) (λ s. HasItem self.old bucket s.link s.item key.now) }
     {
@@ -277,6 +288,7 @@ impl Buckets {
             slice,
             words,
             buckets: _,
+            seed: _,
             key_words: _,
             value_words: _,
             item_bytes: _,

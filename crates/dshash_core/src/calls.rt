@@ -1,7 +1,7 @@
 //! The calls of a partition, on its buckets: of a key that is there, and of one that is not.
 
 ghost use Rattle.std.specs.Prelude.{◌≡◌, ℕ, ◌+◌, ◌/◌, ◌<◌, ◌≤◌, Bool, List, ◌∷◌, length, Option, Some, None, is_some, IfSome};
-ghost use Rattle.dshash_core.specs.Key.{hash_of};
+ghost use Rattle.dshash_core.specs.Key.{seeded_hash};
 ghost use Rattle.dshash_core.specs.Chains.{Item};
 ghost use Rattle.dshash_core.specs.Hung.{HasItem, HasNoItem, with_chain, chain_of};
 ghost use Rattle.dshash_core.specs.Cells.{AreCells, all_items, bucket_of, cells_of};
@@ -75,7 +75,7 @@ fn insert<O: CellObject>(
 )
     requires here { (buckets.old.region ≡ r.now) × (item.part.region ≡ r.now) }
     requires bucket { bucket < length buckets.old.chains }
-    requires hash { hash ≡ hash_of key.now }
+    requires hash { hash ≡ seeded_hash buckets.old.layout.seed key.now }
     requires key { length key.now ≡ buckets.old.layout.key_words }
     requires buffer { length buffer.old ≡ O.VALUE_WORDS }
     requires values { buckets.old.layout.value_words ≡ O.VALUE_WORDS }
@@ -111,7 +111,7 @@ fn put_in<O: CellObject>(
     spare: Option<Chunk>,
 ) -> CoreOut<O>
     requires here { buckets.old.region ≡ r.now }
-    requires hash { hash ≡ hash_of key.now }
+    requires hash { hash ≡ seeded_hash buckets.old.layout.seed key.now }
     requires key { length key.now ≡ buckets.old.layout.key_words }
     requires buffer { length buffer.old ≡ O.VALUE_WORDS }
     requires cells { AreCells size count.old O.VALUE_WORDS buckets.old }
@@ -164,7 +164,7 @@ fn answer_in<O: CellObject>(
     spare: Option<Chunk>,
 ) -> CoreOut<O>
     requires here { buckets.old.region ≡ r.now }
-    requires hash { hash ≡ hash_of key.now }
+    requires hash { hash ≡ seeded_hash buckets.old.layout.seed key.now }
     requires key { length key.now ≡ buckets.old.layout.key_words }
     requires buffer { length buffer.old ≡ O.VALUE_WORDS }
     requires cells { AreCells size count.old O.VALUE_WORDS buckets.old }
@@ -199,7 +199,7 @@ fn answer_on<O: CellObject, const ROOM: usize>(
     spare: Option<Chunk>,
 ) -> CoreOut<O>
     requires here { buckets.old.region ≡ r.now }
-    requires hash { hash ≡ hash_of key.now }
+    requires hash { hash ≡ seeded_hash buckets.old.layout.seed key.now }
     requires key { length key.now ≡ buckets.old.layout.key_words }
     requires room { (O.VALUE_WORDS ≤ ROOM) × (ROOM ≤ 65536) }
     requires cells { AreCells size count.old O.VALUE_WORDS buckets.old }
@@ -226,7 +226,7 @@ fn answer_long<O: CellObject>(
     spare: Option<Chunk>,
 ) -> CoreOut<O>
     requires here { buckets.old.region ≡ r.now }
-    requires hash { hash ≡ hash_of key.now }
+    requires hash { hash ≡ seeded_hash buckets.old.layout.seed key.now }
     requires key { length key.now ≡ buckets.old.layout.key_words }
     requires short { O.VALUE_WORDS ≤ 65536 }
     requires cells { AreCells size count.old O.VALUE_WORDS buckets.old }
@@ -250,7 +250,7 @@ pub(crate) fn answer<O: CellObject>(
     spare: Option<Chunk>,
 ) -> CoreOut<O>
     requires here { buckets.old.region ≡ r.now }
-    requires hash { hash ≡ hash_of key.now }
+    requires hash { hash ≡ seeded_hash buckets.old.layout.seed key.now }
     requires key { length key.now ≡ buckets.old.layout.key_words }
     requires short { O.VALUE_WORDS ≤ 65536 }
     requires cells { AreCells size count.old O.VALUE_WORDS buckets.old }

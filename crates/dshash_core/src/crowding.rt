@@ -5,7 +5,7 @@
 //! then no walk is longer than the bound, whichever keys come.
 
 ghost use Rattle.std.specs.Prelude.{◌≡◌, ◌≤◌, ◌↔◌, ◌&&◌, IsTrue, None, is_some, length, nat_lt, not};
-ghost use Rattle.dshash_core.specs.Key.{hash_of};
+ghost use Rattle.dshash_core.specs.Key.{seeded_hash};
 ghost use Rattle.dshash_core.specs.Cells.{AreCells, cells_of, full_above};
 ghost use Rattle.dshash_core.specs.Outcome.{IsCrowded};
 
@@ -37,11 +37,11 @@ pub(crate) fn is_crowded<O: CellObject>(
     longest: u32,
 ) -> bool
     requires here { buckets.old.region ≡ r.now }
-    requires hash { hash ≡ hash_of key.now }
+    requires hash { hash ≡ seeded_hash buckets.old.layout.seed key.now }
     requires key { length key.now ≡ buckets.old.layout.key_words }
     requires cells { AreCells size count O.VALUE_WORDS buckets.old }
     ensures same { buckets.new ≡ buckets.old }
-    ensures crowded { IsTrue result ↔ IsCrowded O.stepped size (cells_of O.decoded buckets.old.chains) key.now call.now longest }
+    ensures crowded { IsTrue result ↔ IsCrowded O.stepped buckets.old.layout.seed size (cells_of O.decoded buckets.old.chains) key.now call.now longest }
 {
     let bucket = bucket_of_hash(size, hash);
     if !buckets.is_long(r, bucket, longest) {

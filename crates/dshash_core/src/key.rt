@@ -2,9 +2,10 @@
 
 ghost use Rattle.std.specs.Prelude.{◌≡◌, ◌+◌, ◌*◌, ◌<◌, ◌≤◌, ◌^◌, ◌↔◌, List, ℕ, length, take, IfSome, IsNone};
 ghost use Rattle.rel_pointer.specs.Bytes.{AllBytes};
-ghost use Rattle.dshash_core.specs.Key.{fnv_word, finalized, hash_of, packed_key, IsPackedKey, item_size};
+ghost use Rattle.dshash_core.specs.Key.{fnv_word, finalized, hash_of, seeded_hash, sip_word, packed_key, IsPackedKey, item_size};
 
 use rel_pointer::{pack, unpack};
+use std::hash::{DefaultHasher, Hasher};
 
 /// The bytes of the longest byte string that is packed into a key.
 pub const MOST_PACKED_BYTES: usize = 248;
@@ -67,6 +68,29 @@ pub fn hash_key(key: &[u64]) -> u32
 {
     let hash = key.iter().fold(OFFSET_BASIS, |h, word| hash_word(h, *word));
     finalize(hash)
+}
+
+/// SipHash-1-3 goes on over a word.
+fn sip_on(hasher: DefaultHasher, word: u64) -> DefaultHasher
+    ensures { result ≡ sip_word hasher word }
+{
+    let mut next = hasher;
+    next.write_u64(word);
+    next
+}
+
+/// The hash of a key's words in a table with this seed. With the seed 0 it is that of `hash_key`; with any other it is
+/// that of SipHash-1-3, whose first word is the seed.
+#[tactic(auto, unfolding(crate::specs::Key::seeded_hash))]
+pub fn seeded_hash_key(seed: u64, key: &[u64]) -> u32
+    ensures { result ≡ seeded_hash seed key.now }
+{
+    if seed == 0 {
+        return hash_key(key);
+    }
+    let seeded = sip_on(DefaultHasher::new(), seed);
+    let hasher = key.iter().fold(seeded, |h, word| sip_on(h, *word));
+    (hasher.finish() % 0x1_0000_0000) as u32
 }
 
 /// A byte string as a key of 32 words, if it has at most 248 bytes.

@@ -26,7 +26,9 @@ mod words;
 
 pub use buckets::Buckets;
 pub use entries::{Entry, KeyWords};
-pub use key::{MOST_PACKED_BYTES, PACKED_WORDS, hash_key, item_bytes, pack_key, unpack_key};
+pub use key::{
+    MOST_PACKED_BYTES, PACKED_WORDS, hash_key, item_bytes, pack_key, seeded_hash_key, unpack_key,
+};
 pub use object::{CellObject, MOST_VALUE_WORDS};
 pub use outcome::CoreOut;
 pub use partition::Partition;

@@ -9,7 +9,7 @@
 
 ghost use Rattle.std.specs.Prelude.{◌≡◌, true, false, ◌+◌, ◌*◌, ◌/◌, ◌<◌, ◌≤◌, ◌↔◌, length, is_some, IsTrue, IfErr, IfOk, IfNone, IfSome, MatchOption, OnOk};
 ghost use Rattle.std.specs.FinMap as fin;
-ghost use Rattle.dshash_core.specs.Key.{hash_of, item_size};
+ghost use Rattle.dshash_core.specs.Key.{item_size, seeded_hash};
 ghost use Rattle.dshash_core.specs.Cells.{IsRoomy, AreCells, TakesIn, buckets_of, cells_of, layout_of};
 ghost use Rattle.dshash_core.specs.Outcome.{AlwaysRemoves, IsCrowded, IsDone, IsOutcome, HandsOut, ListsAll};
 ghost use Rattle.dshash_core.specs.Listing.{HaveWords, pairs_of};
@@ -20,7 +20,7 @@ use crate::buckets::Buckets;
 use crate::calls::answer;
 use crate::crowding::is_crowded;
 use crate::entries::{Entry, list_all};
-use crate::key::hash_key;
+use crate::key::seeded_hash_key;
 use crate::object::CellObject;
 use crate::outcome::CoreOut;
 use crate::sizes::{LEAST_SIZE, bucket_count, bucket_of_hash};
@@ -64,12 +64,30 @@ impl<O: CellObject> Partition<O> {
         requires room { 8 ≤ slice.bytes }
         requires fits { item_size key_words O.VALUE_WORDS ≤ item_chunk }
         requires short { O.VALUE_WORDS ≤ 65536 }
-        ensures { result ≡ record { region = r.now; slice = slice.at; words = slice.bytes / 8; key_words = key_words; item_bytes = item_chunk; size = 7; cells = fin.empty } }
+        ensures { result ≡ record { region = r.now; slice = slice.at; words = slice.bytes / 8; seed = 0; key_words = key_words; item_bytes = item_chunk; size = 7; cells = fin.empty } }
+    {
+        Partition::with_seed(r, slice, key_words, item_chunk, 0)
+    }
+
+    /// The same with a seed for the hashes of its keys, which say their buckets.
+    pub fn with_seed(
+        r: &Region,
+        slice: Chunk,
+        key_words: u32,
+        item_chunk: u64,
+        seed: u64,
+    ) -> Partition<O>
+        requires here { slice.part.region ≡ r.now }
+        requires room { 8 ≤ slice.bytes }
+        requires fits { item_size key_words O.VALUE_WORDS ≤ item_chunk }
+        requires short { O.VALUE_WORDS ≤ 65536 }
+        ensures { result ≡ record { region = r.now; slice = slice.at; words = slice.bytes / 8; seed = seed; key_words = key_words; item_bytes = item_chunk; size = 7; cells = fin.empty } }
     {
         let buckets = Buckets::new(
             r,
             slice,
             1,
+            seed,
             u64::from(key_words),
             O::VALUE_WORDS as u64,
             item_chunk,
@@ -92,6 +110,13 @@ impl<O: CellObject> Partition<O> {
     {
         self.buckets.is_sound();
         self.size
+    }
+
+    /// The seed of the hashes of its keys.
+    pub fn seed(&self) -> u64
+        ensures { result ≡ self.now.seed }
+    {
+        self.buckets.seed()
     }
 
     /// The number of its keys.
@@ -119,7 +144,8 @@ impl<O: CellObject> Partition<O> {
         ensures handed { HandsOut self.old.region self.old.item_bytes spare result }
         ensures roomy { IsRoomy self.new.size (fin.len self.new.cells) }
     {
-        self.try_call_with_hash(r, hash_key(key), key, call, spare)
+        let hash = seeded_hash_key(self.buckets.seed(), key);
+        self.try_call_with_hash(r, hash, key, call, spare)
     }
 
     /// The same, of a key whose hash is known: a table that needs the hash for the partition's number hashes each key
@@ -134,7 +160,7 @@ impl<O: CellObject> Partition<O> {
         spare: Option<Chunk>,
     ) -> CoreOut<O>
         requires here { self.old.region ≡ r.now }
-        requires hash { hash ≡ hash_of key.now }
+        requires hash { hash ≡ seeded_hash self.old.seed key.now }
         requires key { length key.now ≡ self.old.key_words }
         requires spare { IfSome spare (λ c. (c.part.region ≡ r.now) × (c.bytes ≡ self.old.item_bytes)) }
         ensures outcome { IsOutcome O.stepped self.old.size self.old.cells key.now call.now (is_some spare) result self.new.cells }
@@ -164,10 +190,10 @@ impl<O: CellObject> Partition<O> {
         longest: u32,
     ) -> bool
         requires here { self.old.region ≡ r.now }
-        requires hash { hash ≡ hash_of key.now }
+        requires hash { hash ≡ seeded_hash self.old.seed key.now }
         requires key { length key.now ≡ self.old.key_words }
         ensures same { self.new ≡ self.old }
-        ensures crowded { IsTrue result ↔ IsCrowded O.stepped self.old.size self.old.cells key.now call.now longest }
+        ensures crowded { IsTrue result ↔ IsCrowded O.stepped self.old.seed self.old.size self.old.cells key.now call.now longest }
         ensures roomy { IsRoomy self.new.size (fin.len self.new.cells) }
     {
         is_crowded::<O>(
@@ -197,14 +223,14 @@ impl<O: CellObject> Partition<O> {
         longest: u32,
     ) -> Result<CoreOut<O>, Option<Chunk>>
         requires here { self.old.region ≡ r.now }
-        requires hash { hash ≡ hash_of key.now }
+        requires hash { hash ≡ seeded_hash self.old.seed key.now }
         requires key { length key.now ≡ self.old.key_words }
         requires spare { IfSome spare (λ c. (c.part.region ≡ r.now) × (c.bytes ≡ self.old.item_bytes)) }
         ensures outcome { IfOk result (λ out. IsOutcome O.stepped self.old.size self.old.cells key.now call.now (is_some spare) out self.new.cells) }
         ensures same { self.new ≡ record self.old { cells = self.new.cells } }
         ensures handed { IfOk result (HandsOut self.old.region self.old.item_bytes spare) }
-        ensures within { OnOk result (IsCrowded O.stepped self.old.size self.old.cells key.now call.now longest → ⊥) }
-        ensures crowded { IfErr result (λ back. IsCrowded O.stepped self.old.size self.old.cells key.now call.now longest × (back ≡ spare) × (self.new ≡ self.old)) }
+        ensures within { OnOk result (IsCrowded O.stepped self.old.seed self.old.size self.old.cells key.now call.now longest → ⊥) }
+        ensures crowded { IfErr result (λ back. IsCrowded O.stepped self.old.seed self.old.size self.old.cells key.now call.now longest × (back ≡ spare) × (self.new ≡ self.old)) }
         ensures roomy { IsRoomy self.new.size (fin.len self.new.cells) }
     {
         if self.would_crowd(r, hash, key, call, longest) {
@@ -266,7 +292,7 @@ impl<O: CellObject> Partition<O> {
         requires room { buckets_of size ≤ slice.bytes / 8 }
         ensures fresh { self.new ≡ record self.old { slice = slice.at; words = slice.bytes / 8; size = size; cells = fin.empty } }
         ensures place { (result.region ≡ self.old.region) × (result.slice ≡ self.old.slice) × (result.words ≡ self.old.words) }
-        ensures layout { (result.layout.key_words ≡ self.old.key_words) × (result.layout.value_words ≡ O.VALUE_WORDS) × (result.layout.item_bytes ≡ self.old.item_bytes) }
+        ensures layout { (result.layout.seed ≡ self.old.seed) × (result.layout.key_words ≡ self.old.key_words) × (result.layout.value_words ≡ O.VALUE_WORDS) × (result.layout.item_bytes ≡ self.old.item_bytes) }
         ensures cells { AreCells self.old.size (fin.len self.old.cells) O.VALUE_WORDS result × (cells_of O.decoded result.chains ≡ self.old.cells) }
     {
         self.buckets.is_sound();
@@ -274,6 +300,7 @@ impl<O: CellObject> Partition<O> {
             r,
             slice,
             bucket_count(size),
+            self.buckets.seed(),
             self.buckets.key_words(),
             O::VALUE_WORDS as u64,
             self.buckets.item_bytes(),

@@ -4,7 +4,7 @@ ghost use Rattle.std.specs.Prelude.{◌≡◌, ℕ, ◌+◌, ◌/◌, ◌<◌, �
 ghost use Rattle.std.specs.FinMap as fin;
 ghost use Rattle.word_map.specs.WordMap.{at as word_at, HasJust};
 ghost use Rattle.region_words.specs.Parts.{owned};
-ghost use Rattle.dshash_core.specs.Key.{hash_of};
+ghost use Rattle.dshash_core.specs.Key.{seeded_hash};
 ghost use Rattle.dshash_core.specs.Chains.{word, words_at, IsChain, Among, Item, item_at};
 ghost use Rattle.dshash_core.specs.Walk.{IsReadable, chain_from, IsPlacedFrom, IsNowhereFrom, IsHungIn, IsTakenOut};
 
@@ -83,8 +83,7 @@ pub(crate) fn store_words(part: &mut Part, r: &Region, at: u64, words: &[u64])
 #[inline(always)]
 fn has_key(part: &mut Part, r: &Region, item: u64, hash: u64, key: &[u64]) -> bool
     requires here { part.old.region ≡ r.now }
-    requires hash { hash ≡ hash_of key.now }
-    requires item { IsReadable part.old.words (length key.now) item }
+    requires item { (seed : ℕ) × (hash ≡ seeded_hash seed key.now) × IsReadable part.old.words seed (length key.now) item }
     ensures same { part.new ≡ part.old }
     ensures equal { IsTrue result ↔ (words_at (word part.old.words) (item + 2) (length key.now) ≡ key.now) }
 {
@@ -100,9 +99,8 @@ fn has_key(part: &mut Part, r: &Region, item: u64, hash: u64, key: &[u64]) -> bo
 pub(crate) fn seek(part: &mut Part, r: &Region, link: u64, hash: u64, key: &[u64]) -> Option<Spot>
     requires here { part.old.region ≡ r.now }
     requires link { IsSome (word_at part.old.words link) }
-    requires hash { hash ≡ hash_of key.now }
     requires chain { IsChain (word part.old.words) (word part.old.words link) (chain_from part.old.words link) }
-    requires items { (a : ℕ) → Among a (chain_from part.old.words link) → IsReadable part.old.words (length key.now) a }
+    requires items { (seed : ℕ) × (hash ≡ seeded_hash seed key.now) × ((a : ℕ) → Among a (chain_from part.old.words link) → IsReadable part.old.words seed (length key.now) a) }
     ensures same { part.new ≡ part.old }
     ensures found { MatchOption result (IsNowhereFrom part.old.words link key.now) (λ s. IsPlacedFrom part.old.words link s.link s.item key.now) }
 {
@@ -171,10 +169,9 @@ pub(crate) fn blank(part: &mut Part, r: &Region, from: u64, len: u64)
 pub(crate) fn fill(item: Chunk, r: &Region, hash: u64, key: &[u64], value: &[u64]) -> Chunk
     requires here { item.part.region ≡ r.now }
     requires room { 2 + length key.now + length value.now ≤ item.bytes / 8 }
-    requires hash { hash ≡ hash_of key.now }
     ensures place { (result.at ≡ item.at) × (result.bytes ≡ item.bytes) × (result.part.region ≡ item.part.region) }
     ensures item { item_at (word result.part.words) (length key.now) (length value.now) result.at ≡ record { at = item.at; key = key.now; value = value.now } }
-    ensures hashed { word result.part.words (result.at + 1) ≡ hash_of key.now }
+    ensures hashed { word result.part.words (result.at + 1) ≡ hash }
 {
     let Chunk {
         at,

@@ -10,6 +10,6 @@ returns g c =
     let words = c.fill-item.result.part.words in
     let is_item : IsItemChunk c.fill-item.result.at words c.args.buckets.now.layout it = record {
       reads = (λ i. item_at (word words) (sym c.requires.key i) (sym long i) c.fill-item.result.at) ∙ c.fill-item.ensures.item;
-      hashed = c.fill-item.ensures.hashed;
+      hashed = c.fill-item.ensures.hashed ∙ c.requires.hash;
     } in
     (it, refl, ap g.O.CellObject.decoded c.encode.ensures.words ∙ g.met.O.CellObject.reads_back c.args.state.now c.encode.ensures.value, c.push.ensures it is_item)

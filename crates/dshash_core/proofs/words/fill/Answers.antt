@@ -59,4 +59,3 @@ returns-clause-hashed c =
     ap (λ (a : ℕ). word c.store_words-2.new.part.words (a + 1)) (sym c.word-place.ensures)
     ∙ (filled c.args.item.part.words c.put_word.new.part.words c.store_words.new.part.words c.store_words-2.new.part.words c.word-place.result c.args.hash c.args.key.now c.args.value.now
     (ap (λ (p : Owned). p.words) c.put_word.ensures) c.store_words.ensures.below c.store_words.ensures.words c.store_words-2.ensures.below c.store_words-2.ensures.words).1
-    ∙ c.requires.hash

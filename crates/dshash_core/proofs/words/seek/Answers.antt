@@ -20,8 +20,12 @@ loop-item-init c =
 
 pub has_key-requires-clause-item : goal.has_key-requires-clause-item
 has_key-requires-clause-item c =
-    subst (λ (p : Owned). IsReadable p.words (length c.args.key.now) c.loop-item.item) (sym c.loop-item.invariant.same)
-    (c.requires.items c.loop-item.item (item_on _ _ _ _ _ _ _ c.loop-item.invariant.walked c.loop-item-test.true))
+    let items = c.requires.items in (
+      items.0,
+      items.1,
+      subst (λ (p : Owned). IsReadable p.words items.0 (length c.args.key.now) c.loop-item.item) (sym c.loop-item.invariant.same)
+          (items.2 c.loop-item.item (item_on _ _ _ _ _ _ _ c.loop-item.invariant.walked c.loop-item-test.true)),
+    )
 
 pub returns-then-has_key-clause-found : goal.returns-then-has_key-clause-found
 returns-then-has_key-clause-found c =
@@ -31,7 +35,7 @@ returns-then-has_key-clause-found c =
 pub load-item-requires-in-loop-item-clause-owns : goal.load-item-requires-in-loop-item-clause-owns
 load-item-requires-in-loop-item-clause-owns c =
     subst (λ (p : Owned). IsSome (at p.words c.loop-item.item)) (sym (c.has_key.ensures.same ∙ c.loop-item.invariant.same))
-    ((c.requires.items c.loop-item.item (item_on _ _ _ _ _ _ _ c.loop-item.invariant.walked c.loop-item-test.true)).owned c.loop-item.item (omega arith) (omega arith))
+    ((c.requires.items.2 c.loop-item.item (item_on _ _ _ _ _ _ _ c.loop-item.invariant.walked c.loop-item-test.true)).owned c.loop-item.item (omega arith) (omega arith))
 
 pub loop-item-smaller : goal.loop-item-smaller
 loop-item-smaller c =

@@ -1,4 +1,4 @@
-use Rattle.std.proofs.Common.{◌≡◌, ℕ, List, [], ◌++◌, length}
+use Rattle.std.proofs.Common.{◌≡◌, List, [], ◌++◌, length}
 use Rattle.dshash_core.specs.Chains.{Item}
 use Rattle.dshash_core.specs.Hung.{chain_of, first_place}
 use Rattle.dshash_core.proofs.buckets.Buckets.is_long.Given as goal

@@ -24,10 +24,11 @@ returns-clause-fresh g c =
     let region = ap (λ (u : Hung). u.region) now ∙ sym c.requires.here.0 in
     let slice = ap (λ (u : Hung). u.slice) now in
     let words = ap (λ (u : Hung). u.words) now in
+    let seed = ap (λ (u : Hung). u.layout.seed) now ∙ c.seed.ensures ∙ ap (λ (w : PartitionView g.row.O-State.Denot). w.seed) c.self.view_is in
     let key_words = ap (λ (u : Hung). u.layout.key_words) now ∙ c.key_words.ensures ∙ ap (λ (w : PartitionView g.row.O-State.Denot). w.key_words) c.self.view_is in
     let item_bytes = ap (λ (u : Hung). u.layout.item_bytes) now ∙ c.item_bytes.ensures ∙ ap (λ (w : PartitionView g.row.O-State.Denot). w.item_bytes) c.self.view_is in
     let cells = empty_map g.O.CellObject.decoded c.bucket_count.result c.replace.new.dest.chains (ap (λ (u : Hung). u.chains) now) in
-    λ t. record { region = region t; slice = slice t; words = words t; key_words = key_words t; item_bytes = item_bytes t; size = c.args.size; cells = cells t }
+    λ t. record { region = region t; slice = slice t; words = words t; seed = seed t; key_words = key_words t; item_bytes = item_bytes t; size = c.args.size; cells = cells t }
 
 pub returns-clause-cells : goal.returns-clause-cells
 returns-clause-cells g c =
