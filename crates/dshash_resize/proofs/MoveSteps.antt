@@ -81,6 +81,7 @@ module _ {S : Type 0} (decoded : List ℕ → S) (value_words former total : ℕ
             (λ (e : q ≡ it.key). gone_here (cells_of decoded from.chains) it.key q e)
             (λ (n : q ≢ it.key). gone_there (cells_of decoded from.chains) it.key q n ∙ m.apart q (sym (ap (λ (o : Option S). is_some o) (put_there p.cells it.key (decoded it.value) q n)) ∙ h))
             (keys_same_or_not q it.key);
+        seed = ap (λ (u : Hung). u.layout.seed) without ∙ m.seed;
         key_words = ap (λ (u : Hung). u.layout.key_words) without ∙ m.key_words;
         item_bytes = ap (λ (u : Hung). u.layout.item_bytes) without ∙ m.item_bytes;
       }
@@ -91,8 +92,8 @@ stays_empty from next i rest j e n h = ap (λ (u : Hung). chain_of u j) e ∙ ge
 
 -- a move begins
 pub begins : {S : Type 0} (decoded : List ℕ → S) (value_words former : ℕ) (all : KeyMap S) (p : PartitionView S) (from : Hung) → AreCells former (fin.len all) value_words from → cells_of decoded from.chains ≡ all
-    → p.cells ≡ fin.empty → IsRoomy p.size (fin.len all) → from.layout.key_words ≡ p.key_words → from.layout.item_bytes ≡ p.item_bytes → IsMoving decoded value_words former (fin.len all) all p from
-begins {S} decoded value_words former all p from chains is empty roomy kw ib =
+    → p.cells ≡ fin.empty → IsRoomy p.size (fin.len all) → from.layout.seed ≡ p.seed → from.layout.key_words ≡ p.key_words → from.layout.item_bytes ≡ p.item_bytes → IsMoving decoded value_words former (fin.len all) all p from
+begins {S} decoded value_words former all p from chains is empty roomy sd kw ib =
     let none : (q : List ℕ) → fin.get p.cells q ≡ None = λ q. ap (λ (u : KeyMap S). fin.get u q) empty ∙ fin.get-empty (slice_cmp nat_cmp) q in
     record {
       left = fin.len all;
@@ -101,6 +102,7 @@ begins {S} decoded value_words former all p from chains is empty roomy kw ib =
       roomy = roomy;
       whole = λ q. ap (λ (u : KeyMap S). fin.get u q) (sym is) ∙ ap (λ (o : Option S). either_of o (fin.get (cells_of decoded from.chains) q)) (sym (none q));
       apart = λ q h. let f : is_some (fin.get p.cells q) ≡ false = ap (λ (o : Option S). is_some o) (none q) in let z : true ≡ false = sym h ∙ f in cc;
+      seed = sd;
       key_words = kw;
       item_bytes = ib;
     }
@@ -151,5 +153,5 @@ still_empty from next i it rest j chain without none = ⊎_elim
 
 -- the items' shape is the partition's
 pub layout_is : {S : Type 0} (decoded : List ℕ → S) (value_words former total : ℕ) (all : KeyMap S) (p : PartitionView S) (from : Hung) → IsMoving decoded value_words former total all p from
-    → from.layout ≡ record { key_words = p.key_words; value_words = value_words; item_bytes = p.item_bytes }
-layout_is decoded value_words former total all p from m = λ t. record { key_words = m.key_words t; value_words = m.chains.values t; item_bytes = m.item_bytes t }
+    → from.layout ≡ record { seed = p.seed; key_words = p.key_words; value_words = value_words; item_bytes = p.item_bytes }
+layout_is decoded value_words former total all p from m = λ t. record { seed = m.seed t; key_words = m.key_words t; value_words = m.chains.values t; item_bytes = m.item_bytes t }

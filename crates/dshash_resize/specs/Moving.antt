@@ -18,6 +18,7 @@ pub record IsMoving {S : Type 0} (decoded : List ℕ → S) (value_words former 
   pub roomy : IsRoomy p.size total
   pub whole : (q : List ℕ) → fin.get all q ≡ either_of (fin.get p.cells q) (fin.get (cells_of decoded from.chains) q)
   pub apart : (q : List ℕ) → IsSome (fin.get p.cells q) → fin.get (cells_of decoded from.chains) q ≡ None
+  pub seed : from.layout.seed ≡ p.seed
   pub key_words : from.layout.key_words ≡ p.key_words
   pub item_bytes : from.layout.item_bytes ≡ p.item_bytes
 

@@ -18,8 +18,9 @@ move_chain-requires-clause-moving g c =
       c.loop-bucket.invariant.moved.moving c.args.p.now.size (fin.len all) all
           (begins g.O.CellObject.decoded g.O.CellObject.VALUE_WORDS c.args.p.now.size all c.start_over-from.new.self c.start_over-from.result start.cells.0 start.cells.1
           (ap (λ (w : PartitionView S). w.cells) start.fresh) larger
-          (start.layout.0 ∙ sym (ap (λ (w : PartitionView S). w.key_words) start.fresh))
-          (start.layout.2 ∙ sym (ap (λ (w : PartitionView S). w.item_bytes) start.fresh))),
+          (start.layout.0 ∙ sym (ap (λ (w : PartitionView S). w.seed) start.fresh))
+          (start.layout.1 ∙ sym (ap (λ (w : PartitionView S). w.key_words) start.fresh))
+          (start.layout.3 ∙ sym (ap (λ (w : PartitionView S). w.item_bytes) start.fresh))),
     )
 
 pub returns-clause-same : goal.returns-clause-same
@@ -33,18 +34,20 @@ returns-clause-same g c =
     let moving = c.loop-bucket.invariant.moved.moving c.args.p.now.size (fin.len all) all
     (begins g.O.CellObject.decoded g.O.CellObject.VALUE_WORDS c.args.p.now.size all c.start_over-from.new.self c.start_over-from.result start.cells.0 start.cells.1
     (ap (λ (w : PartitionView S). w.cells) start.fresh) larger
-    (start.layout.0 ∙ sym (ap (λ (w : PartitionView S). w.key_words) start.fresh))
-    (start.layout.2 ∙ sym (ap (λ (w : PartitionView S). w.item_bytes) start.fresh))) in
+    (start.layout.0 ∙ sym (ap (λ (w : PartitionView S). w.seed) start.fresh))
+    (start.layout.1 ∙ sym (ap (λ (w : PartitionView S). w.key_words) start.fresh))
+    (start.layout.3 ∙ sym (ap (λ (w : PartitionView S). w.item_bytes) start.fresh))) in
     let cells = ends g.O.CellObject.decoded g.O.CellObject.VALUE_WORDS c.args.p.now.size (fin.len all) all c.loop-bucket.p c.loop-bucket.from moving
     (λ i l. c.loop-bucket.invariant.empty i (omega (arith, l, c.loop-bucket.invariant.moved.buckets_same, c.len-bucket-end.ensures, c.loop-bucket-test.false))) in
     let same = c.loop-bucket.invariant.moved.same in
     let region = ap (λ (w : PartitionView S). w.region) same ∙ ap (λ (w : PartitionView S). w.region) start.fresh in
     let slice = ap (λ (w : PartitionView S). w.slice) same ∙ ap (λ (w : PartitionView S). w.slice) start.fresh in
     let words = ap (λ (w : PartitionView S). w.words) same ∙ ap (λ (w : PartitionView S). w.words) start.fresh in
+    let seed = ap (λ (w : PartitionView S). w.seed) same ∙ ap (λ (w : PartitionView S). w.seed) start.fresh in
     let key_words = ap (λ (w : PartitionView S). w.key_words) same ∙ ap (λ (w : PartitionView S). w.key_words) start.fresh in
     let item_bytes = ap (λ (w : PartitionView S). w.item_bytes) same ∙ ap (λ (w : PartitionView S). w.item_bytes) start.fresh in
     let size = ap (λ (w : PartitionView S). w.size) same ∙ ap (λ (w : PartitionView S). w.size) start.fresh in
-    λ t. record { region = region t; slice = slice t; words = words t; key_words = key_words t; item_bytes = item_bytes t; size = size t; cells = cells t }
+    λ t. record { region = region t; slice = slice t; words = words t; seed = seed t; key_words = key_words t; item_bytes = item_bytes t; size = size t; cells = cells t }
 
 pub returns-clause-moved : goal.returns-clause-moved
 returns-clause-moved g c =
