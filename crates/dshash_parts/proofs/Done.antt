@@ -173,7 +173,7 @@ module _ {S C R X : Type 0} (of : List ℕ → C → R → X) where
   not_made (Call key row spare) (Made before unused freed) h = absurd (h before unused freed refl)
   not_made (Call key row spare) LacksItem h = refl
   not_made (Call key row spare) (HasToGrow size back) h = refl
-  not_made (Call key row spare) (Crowded longest back) h = refl
+  not_made (Call key row spare) (Crowded seed longest back) h = refl
   not_made (Call key row spare) (HasSize size keys) h = refl
   not_made (Call key row spare) (Moved left) h = refl
   not_made (Call key row spare) (Listed entries) h = refl
@@ -188,7 +188,7 @@ module _ {S C R X : Type 0} (of : List ℕ → C → R → X) where
   none_done k (Turn number call (Made reply unused freed) ∷ es) h = absurd h
   none_done k (Turn number call LacksItem ∷ es) h = skip k number call LacksItem es (not_made call LacksItem (λ b u f e. absurd (cc))) (none_done k es h)
   none_done k (Turn number call (HasToGrow size back) ∷ es) h = skip k number call (HasToGrow size back) es (not_made call (HasToGrow size back) (λ b u f e. absurd (cc))) (none_done k es h)
-  none_done k (Turn number call (Crowded longest back) ∷ es) h = skip k number call (Crowded longest back) es (not_made call (Crowded longest back) (λ b u f e. absurd (cc))) (none_done k es h)
+  none_done k (Turn number call (Crowded seed longest back) ∷ es) h = skip k number call (Crowded seed longest back) es (not_made call (Crowded seed longest back) (λ b u f e. absurd (cc))) (none_done k es h)
   none_done k (Turn number call (HasSize size keys) ∷ es) h = skip k number call (HasSize size keys) es (not_made call (HasSize size keys) (λ b u f e. absurd (cc))) (none_done k es h)
   none_done k (Turn number call (Moved left) ∷ es) h = skip k number call (Moved left) es (not_made call (Moved left) (λ b u f e. absurd (cc))) (none_done k es h)
   none_done k (Turn number call (Listed entries) ∷ es) h = skip k number call (Listed entries) es (not_made call (Listed entries) (λ b u f e. absurd (cc))) (none_done k es h)
@@ -265,11 +265,11 @@ module _ {S C R : Type 0} where
   refused_misses number item key call wanted largest es r = subst (λ (l : List (Event S C R)). 1 ≤ misses l) (sym r.is) (misses_among r.bytes wanted largest r.before r.after)
 
   -- of a call that was turned away an entry says so
-  pub crowded_there : (P : PartitionCalls C → PartitionReplies S R → Type 0) (number item : ℕ) (key : List ℕ) (call : C) (longest : ℕ) (es : List (Event S C R)) → IsCrowdedOut number item key call longest es
-      → ((spare : Bool) → P (Call key call spare) (Crowded longest spare))
+  pub crowded_there : (P : PartitionCalls C → PartitionReplies S R → Type 0) (number item : ℕ) (key : List ℕ) (call : C) (seed longest : ℕ) (es : List (Event S C R)) → IsCrowdedOut number item key call seed longest es
+      → ((spare : Bool) → P (Call key call spare) (Crowded seed longest spare))
       → (more : List (Entry (PartitionState S) (PartitionCalls C) (PartitionReplies S R))) → map pair_of more ≡ turns_at number es
       → Any (λ (e : Entry (PartitionState S) (PartitionCalls C) (PartitionReplies S R)). P e.call e.reply) more
-  crowded_there P number item key call longest es r is more are =
-      let turn : Event S C R = Turn number (Call key call r.spare) (Crowded longest r.spare) in
+  crowded_there P number item key call seed longest es r is more are =
+      let turn : Event S C R = Turn number (Call key call r.spare) (Crowded seed longest r.spare) in
       let whole : Among turn es = subst (Among turn) (sym r.is) (among_back turn r.before (turn ∷ r.after) (inl refl)) in
-      entry_there P (Call key call r.spare) (Crowded longest r.spare) more (subst (Among (Call key call r.spare, Crowded longest r.spare)) (sym are) (turn_there number (Call key call r.spare) (Crowded longest r.spare) es whole)) (is r.spare)
+      entry_there P (Call key call r.spare) (Crowded seed longest r.spare) more (subst (Among (Call key call r.spare, Crowded seed longest r.spare)) (sym are) (turn_there number (Call key call r.spare) (Crowded seed longest r.spare) es whole)) (is r.spare)

@@ -88,18 +88,18 @@ module _ {S C R : Type 0} (number item : ℕ) (key : List ℕ) (call : C) (step 
         record { before = x.2.before; after = x.2.after; spare = spare; unused = unused; freed = freed; ends = x.3.0 ∙ x.2.ends; keeps = one }
 
     -- its chain was too long, and the spare item went back, if there was one
-    pub crowded : (p q : AreaPass) (longest : ℕ) (back : Bool) → back ≡ spare → Underway number item key call step a n false spare v (sight s m p) → size_at s number ≤ 20
-        → AtPartition step who s m s' m' at (Call key call spare) (Crowded longest back) → GaveBack a p q (chunk_size item) back → number_of q ≡ number_of p
-        → (es : List (Event S C R)) × IsCrowdedOut number item key call longest es × Trace step a n v (sight s' m' q) es
-    crowded p q longest back same x low turn gave same_caller =
-        let t = here at who s m s' m' (Call key call spare) (Crowded longest spare) same_at same_who (subst (λ (z : Bool). AtPartition step who s m s' m' at (Call key call spare) (Crowded longest z)) same turn) in
+    pub crowded : (p q : AreaPass) (seed longest : ℕ) (back : Bool) → back ≡ spare → Underway number item key call step a n false spare v (sight s m p) → size_at s number ≤ 20
+        → AtPartition step who s m s' m' at (Call key call spare) (Crowded seed longest back) → GaveBack a p q (chunk_size item) back → number_of q ≡ number_of p
+        → (es : List (Event S C R)) × IsCrowdedOut number item key call seed longest es × Trace step a n v (sight s' m' q) es
+    crowded p q seed longest back same x low turn gave same_caller =
+        let t = here at who s m s' m' (Call key call spare) (Crowded seed longest spare) same_at same_who (subst (λ (z : Bool). AtPartition step who s m s' m' at (Call key call spare) (Crowded seed longest z)) same turn) in
         let given : GaveBack a p q (chunk_size item) spare = subst (λ (z : Bool). GaveBack a p q (chunk_size item) z) same gave in
         let begun : fulls x.events + 7 ≤ size_at s number = x.rounds in
         let rounds : fulls x.events ≤ 13 = omega arith in
         let fate : Bool = fate_of a p q (chunk_size item) spare given in
-        let tail : List (Event S C R) = crowded_end number item key call spare longest fate in (
+        let tail : List (Event S C R) = crowded_end number item key call spare seed longest fate in (
           x.events ++ tail,
-          call_crowded number item key call x.events spare longest fate x.is rounds,
+          call_crowded number item key call x.events spare seed longest fate x.is rounds,
           trace_append step a n v (sight s m p) (sight s' m' q) x.events tail x.trace (sight s' m' p, (t, refl), gift_trace step a n s' m' p q (chunk_size item) spare given same_caller),
         )
 

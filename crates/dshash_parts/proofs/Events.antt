@@ -33,15 +33,15 @@ module _ {O S C R : Type 0} where
   -- or a size
   pub no_other_make : (n : PartitionName) (hash : ℕ) (key : List ℕ) (call : C) (spare : Option Chunk) (answer : TableAnswer O S C R) → AnswerFits n (Make hash key call spare) answer → ((x : _) → answer ≡ Came x → ⊥) → ⊥
   no_other_make n hash key call spare (Came x) f g = g x refl
-  no_other_make n hash key call spare (Long x y) f g = f
+  no_other_make n hash key call spare (Long s x y) f g = f
   no_other_make n hash key call spare (Size x keys) f g = f
   no_other_make n hash key call spare (LeftOver x) f g = f
   no_other_make n hash key call spare (Entries x) f g = f
   no_other_make n hash key call spare (Took x) f g = f
 
-  pub no_other_within : (n : PartitionName) (longest hash : ℕ) (key : List ℕ) (call : C) (spare : Option Chunk) (answer : TableAnswer O S C R) → AnswerFits n (MakeWithin longest hash key call spare) answer → ((x : _) → answer ≡ Came x → ⊥) → ((x : ℕ) (y : Option Chunk) → answer ≡ Long x y → ⊥) → ⊥
+  pub no_other_within : (n : PartitionName) (longest hash : ℕ) (key : List ℕ) (call : C) (spare : Option Chunk) (answer : TableAnswer O S C R) → AnswerFits n (MakeWithin longest hash key call spare) answer → ((x : _) → answer ≡ Came x → ⊥) → ((s x : ℕ) (y : Option Chunk) → answer ≡ Long s x y → ⊥) → ⊥
   no_other_within n longest hash key call spare (Came x) f g h = g x refl
-  no_other_within n longest hash key call spare (Long x y) f g h = h x y refl
+  no_other_within n longest hash key call spare (Long s x y) f g h = h s x y refl
   no_other_within n longest hash key call spare (Size x keys) f g h = f
   no_other_within n longest hash key call spare (LeftOver x) f g h = f
   no_other_within n longest hash key call spare (Entries x) f g h = f
@@ -49,7 +49,7 @@ module _ {O S C R : Type 0} where
 
   pub no_other_look : (n : PartitionName) (answer : TableAnswer O S C R) → AnswerFits {O = O} {S = S} {C = C} {R = R} n Look answer → ((x keys : ℕ) → answer ≡ Size x keys → ⊥) → ⊥
   no_other_look n (Came x) f g = f
-  no_other_look n (Long x y) f g = f
+  no_other_look n (Long s x y) f g = f
   no_other_look n (Size x keys) f g = g x keys refl
   no_other_look n (LeftOver x) f g = f
   no_other_look n (Entries x) f g = f
@@ -57,7 +57,7 @@ module _ {O S C R : Type 0} where
 
   pub no_other_grow : (n : PartitionName) (size : ℕ) (slice : Chunk) (answer : TableAnswer O S C R) → AnswerFits n (Grow size slice) answer → ((x : Chunk) → answer ≡ LeftOver x → ⊥) → ⊥
   no_other_grow n size slice (Came x) f g = f
-  no_other_grow n size slice (Long x y) f g = f
+  no_other_grow n size slice (Long s x y) f g = f
   no_other_grow n size slice (Size x keys) f g = f
   no_other_grow n size slice (LeftOver x) f g = g x refl
   no_other_grow n size slice (Entries x) f g = f
@@ -65,7 +65,7 @@ module _ {O S C R : Type 0} where
 
   pub no_other_take : (n : PartitionName) (call : C) (words : Vec ℕ Global) (answer : TableAnswer O S C R) → AnswerFits n (Take call words) answer → ((x : _) → answer ≡ Took x → ⊥) → ((x keys : ℕ) → answer ≡ Size x keys → ⊥) → ⊥
   no_other_take n call words (Came x) f g h = f
-  no_other_take n call words (Long x y) f g h = f
+  no_other_take n call words (Long s x y) f g h = f
   no_other_take n call words (Size x keys) f g h = h x keys refl
   no_other_take n call words (LeftOver x) f g h = f
   no_other_take n call words (Entries x) f g h = f

@@ -70,28 +70,28 @@ pub have_words : (region : TableId) (xs : List Chunk) → AreSlices region xs �
 have_words region [] h = tt
 have_words region (x ∷ xs) h = (h.0, h.1, have_words region xs h.3)
 
-module _ {S : Type 0} (region : TableId) (key_words item_bytes : ℕ) where
+module _ {S : Type 0} (region : TableId) (seed key_words item_bytes : ℕ) where
   -- what a partition of this number opens with
   abbrev pub opened : ℕ → PartitionName × PartitionState S
-  opened number = (record { region = region; number = number; key_words = key_words; item_bytes = item_bytes }, fresh)
+  opened number = (record { region = region; number = number; seed = seed; key_words = key_words; item_bytes = item_bytes }, fresh)
 
   -- the partition of one place among those from a number on
-  pub opens_at : (number n i : ℕ) → i < n → get_elem? (opens_from {S = S} region key_words item_bytes number n) i ≡ some (opened (number + i))
+  pub opens_at : (number n i : ℕ) → i < n → get_elem? (opens_from {S = S} region seed key_words item_bytes number n) i ≡ some (opened (number + i))
   opens_at number zero i low = absurd (omega arith)
   opens_at number (suc n) zero low = let e : number ≡ number + 0 = omega arith in ap (λ (z : ℕ). some (opened z)) e
   opens_at number (suc n) (suc i) low = let e : (number + 1) + i ≡ number + suc i = omega arith in opens_at (number + 1) n i (omega arith) ∙ ap (λ (z : ℕ). some (opened z)) e
 
 -- as many partitions as were asked for
-pub length-opens : (S : Type 0) (region : TableId) (key_words item_bytes number n : ℕ) → length (opens_from {S = S} region key_words item_bytes number n) ≡ n
-length-opens S region key_words item_bytes number zero = refl
-length-opens S region key_words item_bytes number (suc n) = let r = length-opens S region key_words item_bytes (number + 1) n in omega arith
+pub length-opens : (S : Type 0) (region : TableId) (seed key_words item_bytes number n : ℕ) → length (opens_from {S = S} region seed key_words item_bytes number n) ≡ n
+length-opens S region seed key_words item_bytes number zero = refl
+length-opens S region seed key_words item_bytes number (suc n) = let r = length-opens S region seed key_words item_bytes (number + 1) n in omega arith
 
 -- 128 partitions that opened in order, from 0 on
-pub opened_in : {S : Type 0} (region : TableId) (key_words item_bytes item n : ℕ) (opens : List (PartitionName × PartitionState S)) → opens ≡ opens_from region key_words item_bytes 0 n → n ≡ 128 → item_bytes ≡ item
-    → (i : ℕ) → i < 128 → get_elem? opens i ≡ some (opened {S = S} region key_words item i)
-opened_in {S} region key_words item_bytes item n opens e count same i low =
+pub opened_in : {S : Type 0} (region : TableId) (seed key_words item_bytes item n : ℕ) (opens : List (PartitionName × PartitionState S)) → opens ≡ opens_from region seed key_words item_bytes 0 n → n ≡ 128 → item_bytes ≡ item
+    → (i : ℕ) → i < 128 → get_elem? opens i ≡ some (opened {S = S} region seed key_words item i)
+opened_in {S} region seed key_words item_bytes item n opens e count same i low =
     let few : i < n = omega arith in
     let from_zero : 0 + i ≡ i = omega arith in
     ap (λ (l : List (PartitionName × PartitionState S)). get_elem? l i) e
-    ∙ (opens_at {S = S} region key_words item_bytes 0 n i few
-    ∙ (ap (λ (z : ℕ). some (opened {S = S} region key_words item_bytes z)) from_zero ∙ ap (λ (z : ℕ). some (opened {S = S} region key_words z i)) same))
+    ∙ (opens_at {S = S} region seed key_words item_bytes 0 n i few
+    ∙ (ap (λ (z : ℕ). some (opened {S = S} region seed key_words item_bytes z)) from_zero ∙ ap (λ (z : ℕ). some (opened {S = S} region seed key_words z i)) same))

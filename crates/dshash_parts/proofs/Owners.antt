@@ -37,7 +37,7 @@ module _ {S C R : Type 0} (step : Option S → C → Option S × R) (number : �
       (keys_same_or_not q k)
   turn_ours before after (Call k c sp) LacksItem h own ours q there = kept q before after (one step q before after (Call k c sp) LacksItem h) ours there
   turn_ours before after (Call k c sp) (HasToGrow told back) h own ours q there = kept q before after (one step q before after (Call k c sp) (HasToGrow told back) h) ours there
-  turn_ours before after (Call k c sp) (Crowded longest back) h own ours q there = kept q before after (one step q before after (Call k c sp) (Crowded longest back) h) ours there
+  turn_ours before after (Call k c sp) (Crowded seed longest back) h own ours q there = kept q before after (one step q before after (Call k c sp) (Crowded seed longest back) h) ours there
   turn_ours before after (Call k c sp) (HasSize size keys) h own ours q there = absurd h
   turn_ours before after (Call k c sp) (Moved left) h own ours q there = absurd h
   turn_ours before after (Call k c sp) (Listed es) h own ours q there = absurd h
@@ -109,7 +109,7 @@ module _ {S C R : Type 0} (step : Option S → C → Option S × R) (may : ℕ �
   turn_same other ne before after (Call k c sp) (Made r u f) lets h = done_same other ne before after k c sp r u f lets h.1
   turn_same other ne before after (Call k c sp) LacksItem lets h = one step key before after (Call k c sp) LacksItem h
   turn_same other ne before after (Call k c sp) (HasToGrow told back) lets h = one step key before after (Call k c sp) (HasToGrow told back) h
-  turn_same other ne before after (Call k c sp) (Crowded longest back) lets h = one step key before after (Call k c sp) (Crowded longest back) h
+  turn_same other ne before after (Call k c sp) (Crowded seed longest back) lets h = one step key before after (Call k c sp) (Crowded seed longest back) h
   turn_same other ne before after (Call k c sp) (HasSize size keys) lets h = absurd h
   turn_same other ne before after (Call k c sp) (Moved left) lets h = absurd h
   turn_same other ne before after (Call k c sp) (Listed es) lets h = absurd h

@@ -51,7 +51,7 @@ module _ {S C R : Type 0} (step : Option S → C → Option S × R) where
   one q before after (Call k c sp) (Made r u f) h = done_cell q before after k c sp r u f h.1
   one q before after (Call k c sp) LacksItem h = ap (λ (m : KeyMap S). fin.get m q) (sym h.1.same)
   one q before after (Call k c sp) (HasToGrow told back) h = ap (λ (m : KeyMap S). fin.get m q) (sym h.1.same)
-  one q before after (Call k c sp) (Crowded longest back) h = ap (λ (s : PartitionState S). get s q) (sym h.0)
+  one q before after (Call k c sp) (Crowded seed longest back) h = ap (λ (s : PartitionState S). get s q) (sym h.0)
   one q before after (Call k c sp) (HasSize n m) h = absurd h
   one q before after (Call k c sp) (Moved left) h = absurd h
   one q before after (Call k c sp) (Listed es) h = absurd h
@@ -59,14 +59,14 @@ module _ {S C R : Type 0} (step : Option S → C → Option S × R) where
   one q before after Looks (Made r u f) h = absurd h
   one q before after Looks LacksItem h = absurd h
   one q before after Looks (HasToGrow told back) h = absurd h
-  one q before after Looks (Crowded longest back) h = absurd h
+  one q before after Looks (Crowded seed longest back) h = absurd h
   one q before after Looks (Moved left) h = absurd h
   one q before after Looks (Listed es) h = absurd h
   one q before after (Moves to) (Moved left) h = ap (λ (m : KeyMap S). fin.get m q) (sym h.0.same)
   one q before after (Moves to) (Made r u f) h = absurd h
   one q before after (Moves to) LacksItem h = absurd h
   one q before after (Moves to) (HasToGrow told back) h = absurd h
-  one q before after (Moves to) (Crowded longest back) h = absurd h
+  one q before after (Moves to) (Crowded seed longest back) h = absurd h
   one q before after (Moves to) (HasSize n m) h = absurd h
   one q before after (Moves to) (Listed es) h = absurd h
   one q before after Lists (Listed (Some es)) h = ap (λ (s : PartitionState S). get s q) (sym h.1)
@@ -74,7 +74,7 @@ module _ {S C R : Type 0} (step : Option S → C → Option S × R) where
   one q before after Lists (Made r u f) h = absurd h
   one q before after Lists LacksItem h = absurd h
   one q before after Lists (HasToGrow told back) h = absurd h
-  one q before after Lists (Crowded longest back) h = absurd h
+  one q before after Lists (Crowded seed longest back) h = absurd h
   one q before after Lists (HasSize n m) h = absurd h
   one q before after Lists (Moved left) h = absurd h
 
@@ -99,7 +99,7 @@ module _ {S C R : Type 0} (step : Option S → C → Option S × R) where
   one_grows low before after (Call k c sp) (Made r u f) h p = let e = h.0 in omega arith
   one_grows low before after (Call k c sp) LacksItem h p = let e = h.0 in omega arith
   one_grows low before after (Call k c sp) (HasToGrow told back) h p = let e = h.0 in omega arith
-  one_grows low before after (Call k c sp) (Crowded longest back) h p = same_size low before after h.0 p
+  one_grows low before after (Call k c sp) (Crowded seed longest back) h p = same_size low before after h.0 p
   one_grows low before after (Call k c sp) (HasSize n m) h p = absurd h
   one_grows low before after (Call k c sp) (Moved left) h p = absurd h
   one_grows low before after (Call k c sp) (Listed es) h p = absurd h
@@ -107,7 +107,7 @@ module _ {S C R : Type 0} (step : Option S → C → Option S × R) where
   one_grows low before after Looks (Made r u f) h p = absurd h
   one_grows low before after Looks LacksItem h p = absurd h
   one_grows low before after Looks (HasToGrow told back) h p = absurd h
-  one_grows low before after Looks (Crowded longest back) h p = absurd h
+  one_grows low before after Looks (Crowded seed longest back) h p = absurd h
   one_grows low before after Looks (Moved left) h p = absurd h
   one_grows low before after Looks (Listed es) h p = absurd h
   one_grows low before after (Moves to) (Moved left) h p = dite (dec_lt before.size to)
@@ -116,7 +116,7 @@ module _ {S C R : Type 0} (step : Option S → C → Option S × R) where
   one_grows low before after (Moves to) (Made r u f) h p = absurd h
   one_grows low before after (Moves to) LacksItem h p = absurd h
   one_grows low before after (Moves to) (HasToGrow told back) h p = absurd h
-  one_grows low before after (Moves to) (Crowded longest back) h p = absurd h
+  one_grows low before after (Moves to) (Crowded seed longest back) h p = absurd h
   one_grows low before after (Moves to) (HasSize n m) h p = absurd h
   one_grows low before after (Moves to) (Listed es) h p = absurd h
   one_grows low before after Lists (Listed (Some es)) h p = same_size low before after h.1 p
@@ -124,7 +124,7 @@ module _ {S C R : Type 0} (step : Option S → C → Option S × R) where
   one_grows low before after Lists (Made r u f) h p = absurd h
   one_grows low before after Lists LacksItem h p = absurd h
   one_grows low before after Lists (HasToGrow told back) h p = absurd h
-  one_grows low before after Lists (Crowded longest back) h p = absurd h
+  one_grows low before after Lists (Crowded seed longest back) h p = absurd h
   one_grows low before after Lists (HasSize n m) h p = absurd h
   one_grows low before after Lists (Moved left) h p = absurd h
 

@@ -24,7 +24,7 @@ module _ {S C R : Type 0} where
   fulls_cons (Turn number call (Made r u f)) es = omega arith
   fulls_cons (Turn number call LacksItem) es = omega arith
   fulls_cons (Turn number call (HasToGrow size back)) es = omega arith
-  fulls_cons (Turn number call (Crowded longest back)) es = omega arith
+  fulls_cons (Turn number call (Crowded seed longest back)) es = omega arith
   fulls_cons (Turn number call (HasSize size keys)) es = omega arith
   fulls_cons (Turn number call (Moved left)) es = omega arith
   fulls_cons (Turn number call (Listed entries)) es = omega arith
@@ -39,7 +39,7 @@ module _ {S C R : Type 0} where
   none_append (Turn number call (Made r u f) ∷ es) fs x y = absurd x
   none_append (Turn number call LacksItem ∷ es) fs x y = none_append es fs x y
   none_append (Turn number call (HasToGrow size back) ∷ es) fs x y = none_append es fs x y
-  none_append (Turn number call (Crowded longest back) ∷ es) fs x y = none_append es fs x y
+  none_append (Turn number call (Crowded seed longest back) ∷ es) fs x y = none_append es fs x y
   none_append (Turn number call (HasSize size keys) ∷ es) fs x y = none_append es fs x y
   none_append (Turn number call (Moved left) ∷ es) fs x y = none_append es fs x y
   none_append (Turn number call (Listed entries) ∷ es) fs x y = none_append es fs x y
@@ -58,13 +58,13 @@ module _ {S C R : Type 0} where
   sweeps_quiet size (Turn number Looks (Made r u f) ∷ es) h = absurd h.0
   sweeps_quiet size (Turn number Looks LacksItem ∷ es) h = absurd h.0
   sweeps_quiet size (Turn number Looks (HasToGrow told back) ∷ es) h = absurd h.0
-  sweeps_quiet size (Turn number Looks (Crowded longest back) ∷ es) h = absurd h.0
+  sweeps_quiet size (Turn number Looks (Crowded seed longest back) ∷ es) h = absurd h.0
   sweeps_quiet size (Turn number Looks (Moved left) ∷ es) h = absurd h.0
   sweeps_quiet size (Turn number Looks (Listed entries) ∷ es) h = absurd h.0
   sweeps_quiet size (Turn number (Moves to) (Made r u f) ∷ es) h = absurd h.0
   sweeps_quiet size (Turn number (Moves to) LacksItem ∷ es) h = absurd h.0
   sweeps_quiet size (Turn number (Moves to) (HasToGrow told back) ∷ es) h = absurd h.0
-  sweeps_quiet size (Turn number (Moves to) (Crowded longest back) ∷ es) h = absurd h.0
+  sweeps_quiet size (Turn number (Moves to) (Crowded seed longest back) ∷ es) h = absurd h.0
   sweeps_quiet size (Turn number (Moves to) (HasSize found keys) ∷ es) h = absurd h.0
   sweeps_quiet size (Turn number (Moves to) (Listed entries) ∷ es) h = absurd h.0
 
@@ -310,12 +310,12 @@ module _ {S C R : Type 0} (number item : ℕ) (key : List ℕ) (call : C) where
       }
 
   -- the end of a call whose chain was too long: its spare item was given back, if there was one
-  abbrev pub crowded_end : Bool → ℕ → Bool → List (Event S C R)
-  crowded_end spare longest fate = Turn number (Call key call spare) (Crowded longest spare) ∷ gift (chunk_size item) fate spare
+  abbrev pub crowded_end : Bool → ℕ → ℕ → Bool → List (Event S C R)
+  crowded_end spare seed longest fate = Turn number (Call key call spare) (Crowded seed longest spare) ∷ gift (chunk_size item) fate spare
 
-  pub call_crowded : (es : List (Event S C R)) (spare : Bool) (longest : ℕ) (fate : Bool) → IsUnderway number item key call false spare es → fulls es ≤ 13 → IsCrowdedOut number item key call longest (es ++ crowded_end spare longest fate)
-  call_crowded es spare longest fate x few =
-      let tail : List (Event S C R) = crowded_end spare longest fate in
+  pub call_crowded : (es : List (Event S C R)) (spare : Bool) (seed longest : ℕ) (fate : Bool) → IsUnderway number item key call false spare es → fulls es ≤ 13 → IsCrowdedOut number item key call seed longest (es ++ crowded_end spare seed longest fate)
+  call_crowded es spare seed longest fate x few =
+      let tail : List (Event S C R) = crowded_end spare seed longest fate in
       let g : OnlyGift S C R (chunk_size item) fate spare = only_gift S C R (chunk_size item) fate spare in
       let late : AreCaused number item key call (es ++ tail) (gift (chunk_size item) fate spare) = gift_caused (es ++ tail) fate spare in
       let caused = caused_both number item key call es tail x.caused (record {

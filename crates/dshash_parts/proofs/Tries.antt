@@ -65,7 +65,7 @@ module _ {O S C R : Type 0} (step : Option S → C → Option S × R) (n : ℕ) 
 module _ {O S C R : Type 0} (n : PartitionName) where
   pub is_came : (hash : ℕ) (key : List ℕ) (call : C) (spare : Option Chunk) (answer : TableAnswer O S C R) → AnswerFits n (Make hash key call spare) answer → (out : CoreOut O S C R) × (answer ≡ Came out)
   is_came hash key call spare (Came out) f = (out, refl)
-  is_came hash key call spare (Long x y) f = absurd f
+  is_came hash key call spare (Long s x y) f = absurd f
   is_came hash key call spare (Size x keys) f = absurd f
   is_came hash key call spare (LeftOver x) f = absurd f
   is_came hash key call spare (Entries x) f = absurd f
@@ -74,7 +74,7 @@ module _ {O S C R : Type 0} (n : PartitionName) where
   pub is_left_over : (size : ℕ) (slice : Chunk) (answer : TableAnswer O S C R) → AnswerFits n (Grow size slice) answer → (left : Chunk) × (answer ≡ LeftOver left)
   is_left_over size slice (LeftOver left) f = (left, refl)
   is_left_over size slice (Came x) f = absurd f
-  is_left_over size slice (Long x y) f = absurd f
+  is_left_over size slice (Long s x y) f = absurd f
   is_left_over size slice (Size x keys) f = absurd f
   is_left_over size slice (Entries x) f = absurd f
   is_left_over size slice (Took x) f = absurd f
@@ -82,7 +82,7 @@ module _ {O S C R : Type 0} (n : PartitionName) where
   pub is_size : (answer : TableAnswer O S C R) → AnswerFits {O = O} {S = S} {C = C} {R = R} n Look answer → (size keys : ℕ) × (answer ≡ Size size keys)
   is_size (Size size keys) f = (size, keys, refl)
   is_size (Came x) f = absurd f
-  is_size (Long x y) f = absurd f
+  is_size (Long s x y) f = absurd f
   is_size (LeftOver x) f = absurd f
   is_size (Entries x) f = absurd f
   is_size (Took x) f = absurd f
@@ -90,7 +90,7 @@ module _ {O S C R : Type 0} (n : PartitionName) where
   pub is_entries : (alloc : Global) (answer : TableAnswer O S C R) → AnswerFits {O = O} {S = S} {C = C} {R = R} n (ListAll alloc) answer → (entries : Result (Vec (Entry O S C R) Global) AllocError) × (answer ≡ Entries entries)
   is_entries alloc (Entries entries) f = (entries, refl)
   is_entries alloc (Came x) f = absurd f
-  is_entries alloc (Long x y) f = absurd f
+  is_entries alloc (Long s x y) f = absurd f
   is_entries alloc (Size x keys) f = absurd f
   is_entries alloc (LeftOver x) f = absurd f
   is_entries alloc (Took x) f = absurd f

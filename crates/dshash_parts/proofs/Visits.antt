@@ -19,7 +19,7 @@ use Rattle.dshash_core.specs.declared.outcome.CoreOut.TheVariants.{Done, NeedIte
 use Rattle.dshash_core.proofs.Maps.{same_key}
 use Rattle.dshash_parts.specs.Asked.{outcome_of}
 use Rattle.dshash_parts.specs.Legal.{AreOurs}
-use Rattle.dshash_parts.specs.Lookups.{IsFound, IsVisited, MakesNoCell}
+use Rattle.dshash_parts.specs.Lookups.{IsVisited, MakesNoCell}
 use Rattle.dshash_parts.specs.States.{PartitionState, fresh}
 use Rattle.dshash_parts.specs.Tables.{AreKeysOf, AtPartition, map_at}
 use Rattle.dshash_parts.specs.declared.histories.PartitionCalls.{PartitionCalls}

@@ -1,7 +1,7 @@
 -- A locked partition: which call an ask and its answer represent, which reply an answer represents, and the chunks that
 -- go in and come out.
 use Rattle.std.specs.Prelude.{◌≡◌, ℕ, ◌/◌, ◌≤◌, true, false, List, length, Option, Some, None, Result, Ok, Err, is_some, IfOk, IfSome}
-use Rattle.dshash_core.specs.Key.{hash_of}
+use Rattle.dshash_core.specs.Key.{hash_of, seeded_hash}
 use Rattle.dshash_core.specs.Cells.{PartitionView, buckets_of, partition_of}
 use Rattle.dshash_core.specs.Outcome.{AlwaysRemoves, HandsOut}
 use Rattle.dshash_core.specs.Listing.{HaveWords, pairs_of}
@@ -20,7 +20,7 @@ use Rattle.dshash_parts.specs.declared.histories.PartitionReplies.TheVariants.{M
 
 -- the name of the partition of this number
 abbrev pub name_of : {S : Type 0} → ℕ → PartitionView S → PartitionName
-name_of number p = record { region = p.region; number = number; key_words = p.key_words; item_bytes = p.item_bytes }
+name_of number p = record { region = p.region; number = number; seed = p.seed; key_words = p.key_words; item_bytes = p.item_bytes }
 
 -- its state
 abbrev pub state_of : {S : Type 0} → PartitionView S → PartitionState S
@@ -56,18 +56,18 @@ module _ {O S C R : Type 0} where
   -- the reply of an answer
   abbrev pub reply_of : TableAnswer O S C R → PartitionReplies S R
   reply_of (Came out) = outcome_of out
-  reply_of (Long longest spare) = Crowded longest (is_some spare)
+  reply_of (Long seed longest spare) = Crowded seed longest (is_some spare)
   reply_of (Size size keys) = HasSize size keys
   reply_of (LeftOver slice) = Moved slice.bytes
   reply_of (Entries entries) = listed_of (λ v. pairs_of v.items) entries
   reply_of (Took taken) = Made taken.reply false true
 
-  -- a key has the table's length, comes with its hash and belongs to the partition of this number, and a spare item has
-  -- the items' bytes; a move is to a size from 8 to 20, on a slice with a word for each bucket of that size; for a key
-  -- that is to come there is a word for each of its words
+  -- a key has the table's length, comes with its hash with the table's seed and belongs to the partition of this number,
+  -- and a spare item has the items' bytes; a move is to a size from 8 to 20, on a slice with a word for each bucket of
+  -- that size; for a key that is to come there is a word for each of its words
   abbrev pub AskFits : PartitionName → TableAsk O S C R → Type 0
-  AskFits n (Make hash key call spare) = (length key ≡ n.key_words) × (hash ≡ hash_of key) × (partition_of (hash_of key) ≡ n.number) × IfSome spare (λ c. (c.part.region ≡ n.region) × (c.bytes ≡ n.item_bytes))
-  AskFits n (MakeWithin longest hash key call spare) = (length key ≡ n.key_words) × (hash ≡ hash_of key) × (partition_of (hash_of key) ≡ n.number) × IfSome spare (λ c. (c.part.region ≡ n.region) × (c.bytes ≡ n.item_bytes))
+  AskFits n (Make hash key call spare) = (length key ≡ n.key_words) × (hash ≡ seeded_hash n.seed key) × (partition_of (hash_of key) ≡ n.number) × IfSome spare (λ c. (c.part.region ≡ n.region) × (c.bytes ≡ n.item_bytes))
+  AskFits n (MakeWithin longest hash key call spare) = (length key ≡ n.key_words) × (hash ≡ seeded_hash n.seed key) × (partition_of (hash_of key) ≡ n.number) × IfSome spare (λ c. (c.part.region ≡ n.region) × (c.bytes ≡ n.item_bytes))
   AskFits n Look = Unit {0}
   AskFits n (Grow size slice) = (8 ≤ size) × (size ≤ 20) × (slice.part.region ≡ n.region) × (buckets_of size ≤ slice.bytes / 8)
   AskFits n (ListAll alloc) = Unit {0}
@@ -79,7 +79,7 @@ module _ {O S C R : Type 0} where
   abbrev pub AnswerFits : PartitionName → TableAsk O S C R → TableAnswer O S C R → Type 0
   AnswerFits n (Make hash key call spare) (Came out) = HandsOut n.region n.item_bytes spare out
   AnswerFits n (MakeWithin longest hash key call spare) (Came out) = HandsOut n.region n.item_bytes spare out
-  AnswerFits n (MakeWithin longest hash key call spare) (Long most back) = (most ≡ longest) × (back ≡ spare)
+  AnswerFits n (MakeWithin longest hash key call spare) (Long seed most back) = (seed ≡ n.seed) × (most ≡ longest) × (back ≡ spare)
   AnswerFits n Look (Size size keys) = (7 ≤ size) × (size ≤ 20)
   AnswerFits n (Grow size slice) (LeftOver left) = left.part.region ≡ n.region
   AnswerFits n (ListAll alloc) (Entries entries) = IfOk entries (λ v. HaveWords n.key_words (pairs_of v.items))

@@ -29,12 +29,12 @@ module _ {S C R : Type 0} where
   abbrev pub IsMissing : List ℕ → C → PartitionCalls C → PartitionReplies S R → Type 0
   IsMissing key call (Call k c spare) LacksItem = (k ≡ key) × (c ≡ call)
   IsMissing key call (Call k c spare) (HasToGrow size back) = (k ≡ key) × (c ≡ call)
-  IsMissing key call (Call k c spare) (Crowded longest back) = (k ≡ key) × (c ≡ call)
+  IsMissing key call (Call k c spare) (Crowded seed longest back) = (k ≡ key) × (c ≡ call)
   IsMissing key call other reply = ⊥
 
   -- this call of this key was not made, for its chain had this many items already
   abbrev pub IsTurnedAway : ℕ → List ℕ → C → PartitionCalls C → PartitionReplies S R → Type 0
-  IsTurnedAway longest key call (Call k c spare) (Crowded most back) = (k ≡ key) × (c ≡ call) × (most ≡ longest)
+  IsTurnedAway longest key call (Call k c spare) (Crowded seed most back) = (k ≡ key) × (c ≡ call) × (most ≡ longest)
   IsTurnedAway longest key call other reply = ⊥
 
 -- ---- at the pages

@@ -22,7 +22,7 @@ module _ {S C R : Type 0} (step : Option S → C → Option S × R) where
   IsTurn before (Call key call spare) (Made reply unused freed) after = (after.size ≡ before.size) × IsDone step before.size before.cells key call spare reply unused freed after.cells
   IsTurn before (Call key call spare) LacksItem after = (after.size ≡ before.size) × IsNeedItem step before.size before.cells key call spare after.cells
   IsTurn before (Call key call spare) (HasToGrow size back) after = (after.size ≡ before.size) × IsTooFull step before.size before.cells key call spare size back after.cells
-  IsTurn before (Call key call spare) (Crowded longest back) after = (after ≡ before) × (back ≡ spare) × IsCrowded step before.size before.cells key call longest
+  IsTurn before (Call key call spare) (Crowded seed longest back) after = (after ≡ before) × (back ≡ spare) × IsCrowded step seed before.size before.cells key call longest
   IsTurn before Looks (HasSize size keys) after = (size ≡ before.size) × (after ≡ before) × (keys ≡ fin.len before.cells)
   IsTurn before (Moves to) (Moved left) after = IsMoved before.size before.cells to after.size after.cells × LeavesOver before.size to left
   IsTurn before Lists (Listed (Some entries)) after = ListsAll before.cells entries × (after ≡ before)

@@ -45,6 +45,6 @@ IsNoTable a p q (NoSpace pages largest) = (answers : List Bool) × (length answe
 IsNoTable a p q Memory = Asks a p q [] ⊎ Asks a p q (replicate 128 (Got 8))
 
 -- the names of this many partitions from this number on, each with the state of a new one
-abbrev pub opens_from : {S : Type 0} → TableId → ℕ → ℕ → ℕ → ℕ → List (PartitionName × PartitionState S)
-opens_from region key_words item_bytes number zero = []
-opens_from region key_words item_bytes number (suc n) = (record { region = region; number = number; key_words = key_words; item_bytes = item_bytes }, fresh) ∷ opens_from region key_words item_bytes (number + 1) n
+abbrev pub opens_from : {S : Type 0} → TableId → ℕ → ℕ → ℕ → ℕ → ℕ → List (PartitionName × PartitionState S)
+opens_from region seed key_words item_bytes number zero = []
+opens_from region seed key_words item_bytes number (suc n) = (record { region = region; number = number; seed = seed; key_words = key_words; item_bytes = item_bytes }, fresh) ∷ opens_from region seed key_words item_bytes (number + 1) n

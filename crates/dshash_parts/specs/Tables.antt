@@ -25,6 +25,10 @@ use Rattle.dshash_parts.specs.declared.asks.TableAnswer.{TableAnswer}
 use Rattle.dshash_parts.specs.declared.numbered.Numbered.{Numbered}
 use Rattle.dshash_parts.specs.declared.table.Dshash.{Dshash}
 
+-- the seed of the hashes that say the bucket of a table's key; its partition is that of its hash without a seed
+abbrev pub seed_of : {O S C R : Type 0} → Dshash O S C R → ℕ
+seed_of t = t.seed
+
 -- the words of a table's keys
 abbrev pub key_words_of : {O S C R : Type 0} → Dshash O S C R → ℕ
 key_words_of t = t.key_words
@@ -53,7 +57,7 @@ module _ {O S C R : Type 0} {g : Ghosts (Numbered O S C R) TableId (TableAsk O S
 
 -- the name of the partition of this number
 abbrev pub name_in : {O S C R : Type 0} → TableId → Dshash O S C R → ℕ → PartitionName
-name_in region t number = record { region = region; number = number; key_words = t.key_words; item_bytes = chunk_size t.item_bytes }
+name_in region t number = record { region = region; number = number; seed = t.seed; key_words = t.key_words; item_bytes = chunk_size t.item_bytes }
 
 -- The table is in this region. It opened with 128 partitions, empty and of size 7; a key has up to 64 words, and an
 -- item is one that the area may be asked for

@@ -8,7 +8,7 @@ use std::alloc::{AllocError, Global};
 /// A turn at a partition.
 #[derive(Drop)]
 pub enum TableAsk<O: CellObject> {
-    /// A call of a key, whose hash goes with it, with a spare item or without.
+    /// A call of a key, whose hash with the table's seed goes with it, with a spare item or without.
     Make(u32, Key, O::Call, Option<Chunk>),
     /// The same, unless it would hang the key into a chain that has this many items already.
     MakeWithin(u32, u32, Key, O::Call, Option<Chunk>),
@@ -27,8 +27,8 @@ pub enum TableAsk<O: CellObject> {
 pub enum TableAnswer<O: CellObject> {
     /// What became of the call.
     Came(CoreOut<O>),
-    /// The key's chain has this many items: the spare item.
-    Long(u32, Option<Chunk>),
+    /// With hashes of this seed, the key's chain has this many items: the spare item.
+    Long(u64, u32, Option<Chunk>),
     /// The size, and the number of keys.
     Size(u32, u64),
     /// The slice that is left over: the former one, or the new one if the partition has that size already.

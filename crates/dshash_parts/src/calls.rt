@@ -213,9 +213,10 @@ where
     {
         let hash = hash_key(key);
         let number = partition_of_hash(hash);
+        let own = self.own_hash(hash, key);
         let mut held = spare.take();
         'turns: loop {
-            match try_at(rt, self, r, pass, number, hash, key, call, held) {
+            match try_at(rt, self, r, pass, number, own, key, call, held) {
                 CoreOut::Done {
                     reply,
                     unused,

@@ -56,6 +56,7 @@ where
         ensures allowed { (i : ℕ) → i < 128 → AreAllowed O.may (whole_of result i) }
     {
         let Dshash {
+            seed: _,
             key_words: _,
             home: _,
             item_bytes: _,

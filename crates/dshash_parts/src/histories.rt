@@ -10,6 +10,8 @@ pub struct PartitionName {
     pub region: Region,
     /// Its place in the table, from 0 to 127.
     pub number: u32,
+    /// The seed of the hashes that say a key's bucket.
+    pub seed: u64,
     /// The words of a key.
     pub key_words: u64,
     /// The bytes of an item.
@@ -51,9 +53,9 @@ pub enum PartitionReplies<S, R> {
     LacksItem,
     /// The partition, of this size, has to grow first; whether the spare was handed back.
     HasToGrow(u32, bool),
-    /// The key's chain has this many items or more, and the call would hang one more in; whether the spare was handed
-    /// back.
-    Crowded(u32, bool),
+    /// With hashes of this seed, the key's chain has this many items or more, and the call would hang one more in; whether
+    /// the spare was handed back.
+    Crowded(u64, u32, bool),
     /// The size, and the number of keys.
     HasSize(u32, u64),
     /// The move was made, or was not needed any more; the bytes of the slice that was left over.

@@ -70,7 +70,7 @@ where
             TableAsk::MakeWithin(longest, hash, key, call, spare) => {
                 match partition.try_call_within(r, hash, key.words(), &call, spare, longest) {
                     Ok(out) => TableAnswer::Came(out),
-                    Err(spare) => TableAnswer::Long(longest, spare),
+                    Err(spare) => TableAnswer::Long(partition.seed(), longest, spare),
                 }
             }
             TableAsk::Look => TableAnswer::Size(partition.size(), partition.count()),

@@ -9,7 +9,7 @@ ghost use Rattle.region_words.specs.Parts.{owned};
 ghost use Rattle.dsa_area.specs.Shown.{Belongs as AreaBelongs, IsArea, number_of as area_number};
 ghost use Rattle.dshash_core.specs.Key.{item_size};
 ghost use Rattle.dshash_parts.specs.Asked.{name_of, state_of};
-ghost use Rattle.dshash_parts.specs.Tables.{IsHome, IsTable, key_words_of, item_of, AreAll, callers_of};
+ghost use Rattle.dshash_parts.specs.Tables.{IsHome, IsTable, key_words_of, item_of, seed_of, AreAll, callers_of};
 ghost use Rattle.dshash_parts.specs.Traces.{Got};
 ghost use Rattle.dshash_parts.specs.Opening.{Asks, AreSlices, HaveWords, GaveSlices, IsNoTable, opens_from};
 
@@ -122,6 +122,7 @@ fn partitions<O: CellObject>(
     alloc: Global,
     r: &Region,
     slices: Vec<Chunk>,
+    seed: u64,
     key_words: u32,
     item_chunk: u64,
 ) -> Result<Vec<Numbered<O>>, AllocError>
@@ -129,12 +130,12 @@ fn partitions<O: CellObject>(
     requires few { length slices.items ≤ 128 }
     requires fits { item_size key_words O.VALUE_WORDS ≤ item_chunk }
     requires short { O.VALUE_WORDS ≤ 65536 }
-    ensures { IfOk result (λ v. map (λ x. (name_of x.number x.partition, state_of x.partition)) v.items ≡ opens_from r.now key_words item_chunk 0 (length slices.items)) }
+    ensures { IfOk result (λ v. map (λ x. (name_of x.number x.partition, state_of x.partition)) v.items ≡ opens_from r.now seed key_words item_chunk 0 (length slices.items)) }
 {
     let mut parts = Vec::with_capacity(alloc, slices.len())?;
     let mut number = 0;
     for slice in slices {
-        let partition = Partition::new(r, slice, key_words, item_chunk);
+        let partition = Partition::with_seed(r, slice, key_words, item_chunk, seed);
         parts.push_reserved(Numbered { number, partition });
         number += 1;
     }
@@ -168,6 +169,41 @@ where
         ensures area_caller { area_number apass.new ≡ area_number apass.old }
         ensures table { IfOk result (λ t. IsTable r.now t.0) }
         ensures home { IfOk result (λ t. IsHome area.now t.0) }
+        ensures seed { IfOk result (λ t. seed_of t.0 ≡ 0) }
+        ensures keys { IfOk result (λ t. key_words_of t.0 ≡ key_words) }
+        ensures items { IfOk result (λ t. item_of t.0 ≡ item_size key_words O.VALUE_WORDS) }
+        ensures callers { IfOk result (λ t. callers_of t.0 ≡ callers) }
+        ensures passes { IfOk result (λ t. AreAll t.0 t.1.items) }
+        ensures fresh { IfOk result (λ t. (k : ℕ) (p : _) → get_elem? t.1.items k ≡ some p → (i : ℕ) → (seen_of p i ≡ []) × (mine_of p i ≡ [])) }
+        ensures asked { IfOk result (λ _. Asks area.now apass.old apass.new (replicate 128 (Got 8))) }
+        ensures refused { IfErr result (λ e. IsNoTable area.now apass.old apass.new e) }
+    {
+        Dshash::with_seed(rt, alloc, r, area, apass, 0, key_words, callers)
+    }
+
+    /// The same, with a seed for the hashes that say a key's bucket: draw one if strangers choose the keys, and keep it from
+    /// them. Each call then hashes its key once more, by SipHash-1-3. The partition of a key is that of its hash without a
+    /// seed, in every table, so strangers may still choose the keys of one partition, which has one lock.
+    pub fn with_seed<R: Wait>(
+        rt: &R,
+        alloc: Global,
+        r: &Region,
+        area: &Area,
+        apass: &mut AreaPass,
+        seed: u64,
+        key_words: u32,
+        callers: u32,
+    ) -> Result<(Dshash<O>, Vec<DsPass<O>>), DsNew>
+        requires area { IsArea r.now area.now }
+        requires area_own { AreaBelongs area.now apass.old }
+        requires keys { (1 ≤ key_words) × (key_words ≤ 64) }
+        requires callers { 1 ≤ callers }
+        requires values { O.VALUE_WORDS ≤ 65536 }
+        ensures area_own { AreaBelongs area.now apass.new }
+        ensures area_caller { area_number apass.new ≡ area_number apass.old }
+        ensures table { IfOk result (λ t. IsTable r.now t.0) }
+        ensures home { IfOk result (λ t. IsHome area.now t.0) }
+        ensures seed { IfOk result (λ t. seed_of t.0 ≡ seed) }
         ensures keys { IfOk result (λ t. key_words_of t.0 ≡ key_words) }
         ensures items { IfOk result (λ t. item_of t.0 ≡ item_size key_words O.VALUE_WORDS) }
         ensures callers { IfOk result (λ t. callers_of t.0 ≡ callers) }
@@ -178,7 +214,7 @@ where
     {
         let slices = take_slices(rt, alloc, r, area, apass)?;
         let home = Origin::of(area);
-        match Dshash::with_home(alloc, r, slices, key_words, callers, Some(home)) {
+        match Dshash::with_home(alloc, r, slices, seed, key_words, callers, Some(home)) {
             Ok(made) => Ok(made),
             Err(_) => Err(DsNew::Memory),
         }
@@ -200,6 +236,7 @@ where
         requires callers { 1 ≤ callers }
         requires values { O.VALUE_WORDS ≤ 65536 }
         ensures table { IfOk result (λ t. IsTable r.now t.0) }
+        ensures seed { IfOk result (λ t. seed_of t.0 ≡ 0) }
         ensures keys { IfOk result (λ t. key_words_of t.0 ≡ key_words) }
         ensures items { IfOk result (λ t. item_of t.0 ≡ item_size key_words O.VALUE_WORDS) }
         ensures callers { IfOk result (λ t. callers_of t.0 ≡ callers) }
@@ -207,7 +244,33 @@ where
         ensures fresh { IfOk result (λ t. (k : ℕ) (p : _) → get_elem? t.1.items k ≡ some p → (i : ℕ) → (seen_of p i ≡ []) × (mine_of p i ≡ [])) }
         ensures home { IfOk result (λ t. (area : _) → IsHome area t.0) }
     {
-        Dshash::with_home(alloc, r, slices, key_words, callers, None)
+        Dshash::on_slices_with_seed(alloc, r, slices, 0, key_words, callers)
+    }
+
+    /// The same, with a seed for the hashes that say a key's bucket, as for `with_seed`.
+    pub fn on_slices_with_seed(
+        alloc: Global,
+        r: &Region,
+        slices: Vec<Chunk>,
+        seed: u64,
+        key_words: u32,
+        callers: u32,
+    ) -> Result<(Dshash<O>, Vec<DsPass<O>>), AllocError>
+        requires count { length slices.items ≡ 128 }
+        requires slices { HaveWords r.now slices.items }
+        requires keys { (1 ≤ key_words) × (key_words ≤ 64) }
+        requires callers { 1 ≤ callers }
+        requires values { O.VALUE_WORDS ≤ 65536 }
+        ensures table { IfOk result (λ t. IsTable r.now t.0) }
+        ensures seed { IfOk result (λ t. seed_of t.0 ≡ seed) }
+        ensures keys { IfOk result (λ t. key_words_of t.0 ≡ key_words) }
+        ensures items { IfOk result (λ t. item_of t.0 ≡ item_size key_words O.VALUE_WORDS) }
+        ensures callers { IfOk result (λ t. callers_of t.0 ≡ callers) }
+        ensures passes { IfOk result (λ t. AreAll t.0 t.1.items) }
+        ensures fresh { IfOk result (λ t. (k : ℕ) (p : _) → get_elem? t.1.items k ≡ some p → (i : ℕ) → (seen_of p i ≡ []) × (mine_of p i ≡ [])) }
+        ensures home { IfOk result (λ t. (area : _) → IsHome area t.0) }
+    {
+        Dshash::with_home(alloc, r, slices, seed, key_words, callers, None)
     }
 
     /// The same, with what clauses see of the area that the slices are from.
@@ -215,6 +278,7 @@ where
         alloc: Global,
         r: &Region,
         slices: Vec<Chunk>,
+        seed: u64,
         key_words: u32,
         callers: u32,
         home: Option<Origin<Area>>,
@@ -225,6 +289,7 @@ where
         requires callers { 1 ≤ callers }
         requires values { O.VALUE_WORDS ≤ 65536 }
         ensures table { IfOk result (λ t. IsTable r.now t.0) }
+        ensures seed { IfOk result (λ t. seed_of t.0 ≡ seed) }
         ensures keys { IfOk result (λ t. key_words_of t.0 ≡ key_words) }
         ensures items { IfOk result (λ t. item_of t.0 ≡ item_size key_words O.VALUE_WORDS) }
         ensures callers { IfOk result (λ t. callers_of t.0 ≡ callers) }
@@ -233,9 +298,10 @@ where
         ensures home { IfOk result (λ t. t.0.home ≡ home) }
     {
         let item = item_bytes(key_words, O::VALUE_WORDS as u32);
-        let parts = partitions::<O>(alloc, r, slices, key_words, chunk_bytes(item))?;
+        let parts = partitions::<O>(alloc, r, slices, seed, key_words, chunk_bytes(item))?;
         let (shelf, passes) = Shelf::new(alloc, parts, callers)?;
         let table = Dshash {
+            seed,
             key_words,
             item_bytes: item,
             shelf,

@@ -24,7 +24,7 @@ use crate::asks::{TableAnswer, TableAsk};
 use crate::key::Key;
 use crate::numbered::Numbered;
 use crate::table::{DsPass, Dshash};
-use dshash_core::{CellObject, CoreOut, hash_key};
+use dshash_core::{CellObject, CoreOut, seeded_hash_key};
 use lock_book::Turn;
 use region_words::{Chunk, Region};
 use std::sync::Wait;
@@ -73,7 +73,8 @@ where
         ensures told { ToldIn O.stepped turn.old turn.new key.now call.now result }
         ensures handed { HandsOut r.now (chunk_size (item_of self.now)) spare result }
     {
-        let ask = TableAsk::Make(hash_key(key), Key::of(key), *call, spare);
+        let hash = seeded_hash_key(self.seed, key);
+        let ask = TableAsk::Make(hash, Key::of(key), *call, spare);
         match turn.call(&self.shelf, r, ask) {
             TableAnswer::Came(out) => out,
             _ => unreachable!(),

@@ -18,6 +18,8 @@ where
     O::Call: Send,
     O::Reply: Send,
 {
+    /// The seed of the hashes that say a key's bucket.
+    pub(crate) seed: u64,
     /// The words of a key.
     pub(crate) key_words: u32,
     /// The bytes that are asked of the area for an item.

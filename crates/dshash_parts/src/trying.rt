@@ -117,7 +117,8 @@ where
     {
         let hash = hash_key(key);
         let number = partition_of_hash(hash);
-        let ask = TableAsk::Make(hash, Key::of(key), *call, spare);
+        let own = self.own_hash(hash, key);
+        let ask = TableAsk::Make(own, Key::of(key), *call, spare);
         match self.shelf.try_call(r, pass, number as usize, ask) {
             Ok(answer) => Ok(came(answer)),
             Err(TableAsk::Make(_, _, _, spare)) => Err(spare),

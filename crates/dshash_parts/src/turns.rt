@@ -4,7 +4,7 @@ ghost use Rattle.std.specs.Prelude.{◌≡◌, ℕ, ◌/◌, ◌<◌, ◌≤◌,
 ghost use Rattle.std.specs.FinMap as fin;
 ghost use Rattle.lock_book.specs.Shown.{number_of, seen_of, mine_of};
 ghost use Rattle.dsa_area.specs.Sizes.{chunk_size};
-ghost use Rattle.dshash_core.specs.Key.{hash_of};
+ghost use Rattle.dshash_core.specs.Key.{hash_of, seeded_hash};
 ghost use Rattle.dshash_core.specs.Cells.{buckets_of, partition_of};
 ghost use Rattle.dshash_core.specs.Outcome.{AlwaysRemoves, HandsOut};
 ghost use Rattle.dshash_parts.specs.Asked.{outcome_of};
@@ -15,9 +15,29 @@ ghost use Rattle.dshash_parts.specs.declared.histories.PartitionReplies.TheVaria
 use crate::asks::{TableAnswer, TableAsk};
 use crate::key::Key;
 use crate::table::{DsPass, Dshash};
-use dshash_core::{CellObject, CoreOut, Taken};
+use dshash_core::{CellObject, CoreOut, Taken, seeded_hash_key};
 use region_words::{Chunk, Region};
 use std::sync::Wait;
+
+impl<O: CellObject + Send> Dshash<O>
+where
+    O::State: Send,
+    O::Call: Send,
+    O::Reply: Send,
+{
+    /// The hash that says a key's bucket, from its hash without a seed: another one only if the table has a seed.
+    #[tactic(auto, using(dshash_core::proofs::Hashes::unseeded))]
+    #[inline(always)]
+    pub(crate) fn own_hash(&self, hash: u32, key: &[u64]) -> u32
+        requires { hash ≡ hash_of key.now }
+        ensures { result ≡ seeded_hash self.now.seed key.now }
+    {
+        if self.seed == 0 {
+            return hash;
+        }
+        seeded_hash_key(self.seed, key)
+    }
+}
 
 /// A call of a key, at its partition.
 #[inline(always)]
@@ -39,7 +59,7 @@ where
     requires table { IsTable r.now table.now }
     requires own { Belongs table.now pass.old }
     requires number { number < 128 }
-    requires hash { (hash ≡ hash_of key.now) × (partition_of hash ≡ number) }
+    requires hash { (hash ≡ seeded_hash table.now.seed key.now) × (partition_of (hash_of key.now) ≡ number) }
     requires key { length key.now ≡ table.now.key_words }
     requires may { O.may (number_of pass.old) key.now call.now }
     requires spare { IfSome spare (λ c. (c.part.region ≡ r.now) × (c.bytes ≡ chunk_size table.now.item_bytes)) }
@@ -77,7 +97,7 @@ where
     requires table { IsTable r.now table.now }
     requires own { Belongs table.now pass.old }
     requires number { number < 128 }
-    requires hash { (hash ≡ hash_of key.now) × (partition_of hash ≡ number) }
+    requires hash { (hash ≡ seeded_hash table.now.seed key.now) × (partition_of (hash_of key.now) ≡ number) }
     requires key { length key.now ≡ table.now.key_words }
     requires may { O.may (number_of pass.old) key.now call.now }
     requires spare { IfSome spare (λ c. (c.part.region ≡ r.now) × (c.bytes ≡ chunk_size table.now.item_bytes)) }
@@ -86,13 +106,13 @@ where
     ensures grows { (k : ℕ) → k < 128 → size_at (seen_of pass.old) k ≤ size_at (seen_of pass.new) k }
     ensures event { IfOk result (λ out. Turned O.stepped pass.old pass.new number (Call key.now call.now (is_some spare)) (outcome_of out)) }
     ensures handed { IfOk result (HandsOut r.now (chunk_size table.now.item_bytes) spare) }
-    ensures crowded { IfErr result (λ back. Turned O.stepped pass.old pass.new number (Call key.now call.now (is_some spare)) (Crowded longest (is_some back))) }
+    ensures crowded { IfErr result (λ back. Turned O.stepped pass.old pass.new number (Call key.now call.now (is_some spare)) (Crowded table.now.seed longest (is_some back))) }
     ensures back { IfErr result (λ back. back ≡ spare) }
 {
     let ask = TableAsk::MakeWithin(longest, hash, Key::of(key), *call, spare);
     match table.shelf.call(rt, r, pass, number as usize, ask) {
         TableAnswer::Came(out) => Ok(out),
-        TableAnswer::Long(_, spare) => Err(spare),
+        TableAnswer::Long(_, _, spare) => Err(spare),
         _ => unreachable!(),
     }
 }

@@ -55,7 +55,8 @@ where
     {
         let hash = hash_key(key);
         let number = partition_of_hash(hash);
-        match try_at(rt, self, r, pass, number, hash, key, call, None) {
+        let own = self.own_hash(hash, key);
+        match try_at(rt, self, r, pass, number, own, key, call, None) {
             CoreOut::Done { reply, freed, .. } => (reply, freed),
             _ => unreachable!(),
         }

@@ -77,9 +77,10 @@ where
     {
         let hash = hash_key(key);
         let number = partition_of_hash(hash);
+        let own = self.own_hash(hash, key);
         let mut held = None;
         'turns: loop {
-            match try_within(rt, self, r, pass, number, hash, key, call, held, longest) {
+            match try_within(rt, self, r, pass, number, own, key, call, held, longest) {
                 Ok(
                     CoreOut::Done {
                         reply,

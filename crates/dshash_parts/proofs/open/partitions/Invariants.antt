@@ -11,5 +11,5 @@ invariant-loop-slice g l =
       slices : HaveWords l.r left;
       few : l.number + length left ≤ 128;
       room : vec_len l.parts + length left ≤ vec_capacity l.parts;
-      opens : map (λ x. (name_of x.number x.partition, state_of x.partition)) l.parts.items ++ opens_from l.r l.key_words l.item_chunk l.number (length left) ≡ opens_from l.r l.key_words l.item_chunk 0 (length l.fn.slices.items);
+      opens : map (λ x. (name_of x.number x.partition, state_of x.partition)) l.parts.items ++ opens_from l.r l.seed l.key_words l.item_chunk l.number (length left) ≡ opens_from l.r l.seed l.key_words l.item_chunk 0 (length l.fn.slices.items);
     }

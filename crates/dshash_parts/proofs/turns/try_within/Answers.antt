@@ -24,11 +24,12 @@ pub returns-in-Long-clause-crowded : goal.returns-in-Long-clause-crowded
 returns-in-Long-clause-crowded g c =
     let fits = c.in-Long.ensures.output _ (c.requires.table.parts c.args.number c.requires.number) in
     let event = turn g.O.CellObject.stepped g.O.CellObject.may (opens_of c.args.table.now.shelf) _ _ _ _ _ c.args.number _ _ (name_in c.args.r.now c.args.table.now c.args.number) (c.requires.table.parts c.args.number c.requires.number) refl (c.in-Long.ensures.own.0.stands.lawful c.args.number _ (c.requires.table.parts c.args.number c.requires.number)) c.in-Long.ensures.called in
-    subst (λ (z : ℕ). AtPartition g.O.CellObject.stepped (number_of c.args.pass.now) (seen_of c.args.pass.now) (mine_of c.args.pass.now) (seen_of c.call.new.pass) (mine_of c.call.new.pass) c.args.number (Call c.args.key.now c.args.call.now (is_some c.args.spare)) (Crowded z (is_some c.in-Long.spare))) fits.0
-    (subst (λ (z : List ℕ). AtPartition g.O.CellObject.stepped (number_of c.args.pass.now) (seen_of c.args.pass.now) (mine_of c.args.pass.now) (seen_of c.call.new.pass) (mine_of c.call.new.pass) c.args.number (Call z c.args.call.now (is_some c.args.spare)) (Crowded c.in-Long.field-0 (is_some c.in-Long.spare))) c.of.ensures event)
+    subst (λ (z : ℕ). AtPartition g.O.CellObject.stepped (number_of c.args.pass.now) (seen_of c.args.pass.now) (mine_of c.args.pass.now) (seen_of c.call.new.pass) (mine_of c.call.new.pass) c.args.number (Call c.args.key.now c.args.call.now (is_some c.args.spare)) (Crowded c.args.table.now.seed z (is_some c.in-Long.spare))) fits.1
+    (subst (λ (z : ℕ). AtPartition g.O.CellObject.stepped (number_of c.args.pass.now) (seen_of c.args.pass.now) (mine_of c.args.pass.now) (seen_of c.call.new.pass) (mine_of c.call.new.pass) c.args.number (Call c.args.key.now c.args.call.now (is_some c.args.spare)) (Crowded z c.in-Long.field-1 (is_some c.in-Long.spare))) fits.0
+    (subst (λ (z : List ℕ). AtPartition g.O.CellObject.stepped (number_of c.args.pass.now) (seen_of c.args.pass.now) (mine_of c.args.pass.now) (seen_of c.call.new.pass) (mine_of c.call.new.pass) c.args.number (Call z c.args.call.now (is_some c.args.spare)) (Crowded c.in-Long.field-0 c.in-Long.field-1 (is_some c.in-Long.spare))) c.of.ensures event))
 
 pub returns-in-Long-clause-grows : goal.returns-in-Long-clause-grows
 returns-in-Long-clause-grows g c = λ k low. turn_grows g.O.CellObject.stepped _ _ _ _ _ c.args.number _ _ k (lawful g.O.CellObject.stepped g.O.CellObject.may k _ (c.in-Long.ensures.own.0.stands.lawful k _ (c.requires.table.parts k low))) (returns-in-Long-clause-crowded g c)
 
 pub returns-in-Long-clause-back : goal.returns-in-Long-clause-back
-returns-in-Long-clause-back g c = (c.in-Long.ensures.output _ (c.requires.table.parts c.args.number c.requires.number)).1
+returns-in-Long-clause-back g c = (c.in-Long.ensures.output _ (c.requires.table.parts c.args.number c.requires.number)).2

@@ -1,12 +1,12 @@
-use Rattle.std.proofs.Common.{◌≡◌, ◌∙◌, ◌<◌, ◌++◌, ℕ, List, is_some, length, refl, sym, ap, subst}
+use Rattle.std.proofs.Common.{◌≡◌, ◌<◌, ◌++◌, ℕ, List, is_some, length, sym, ap, subst}
 use Rattle.std.specs.Option.{IfSome}
 use Rattle.lock_book.specs.Shown.{begun_in, calls_in, number_in, place_in}
 use Rattle.lock_book.proofs.Uses.{turn_legal}
-use Rattle.dshash_core.specs.Key.{hash_of}
+use Rattle.dshash_core.specs.Key.{hash_of, seeded_hash}
 use Rattle.dshash_core.specs.Cells.{partition_of}
 use Rattle.dshash_parts.specs.Asked.{outcome_of}
 use Rattle.dshash_parts.specs.States.{fresh}
-use Rattle.dshash_parts.specs.Tables.{key_words_of, name_in}
+use Rattle.dshash_parts.specs.Tables.{key_words_of, name_in, seed_of}
 use Rattle.dshash_parts.specs.Turns.{TurnedIn}
 use Rattle.dshash_parts.specs.declared.histories.PartitionCalls.TheVariants.{Call}
 use Rattle.dshash_parts.specs.declared.histories.PartitionName.{PartitionName}
@@ -26,7 +26,7 @@ call-requires-clause-input g c κs within = λ o eo.
       (
         (
           subst (λ (n : PartitionName). length c.of.result ≡ n.key_words) same (subst (λ (k : List ℕ). length k ≡ key_words_of c.args.self.now) (sym c.of.ensures) home.0),
-          subst (λ (k : List ℕ). c.hash_key.result ≡ hash_of k) (sym c.of.ensures) c.hash_key.ensures,
+          subst (λ (n : PartitionName). c.seeded_hash_key-hash.result ≡ seeded_hash n.seed c.of.result) same (subst (λ (k : List ℕ). c.seeded_hash_key-hash.result ≡ seeded_hash (seed_of c.args.self.now) k) (sym c.of.ensures) c.seeded_hash_key-hash.ensures),
           subst (λ (n : PartitionName). partition_of (hash_of c.of.result) ≡ n.number) same (subst (λ (k : List ℕ). partition_of (hash_of k) ≡ at) (sym c.of.ensures) home.1),
           subst (λ (n : PartitionName). IfSome c.args.spare (λ s. (s.part.region ≡ n.region) × (s.bytes ≡ n.item_bytes))) same c.requires.spare,
         ),
@@ -38,7 +38,7 @@ pub unreachable-requires : goal.unreachable-requires
 unreachable-requires g c =
     let at = place_in c.args.turn.now in
     let there = c.requires.table.parts at (subst (λ n. at < n) c.requires.table.count c.requires.turn.1.place) in
-    no_other_make (name_in c.args.r.now c.args.self.now at) c.hash_key.result c.of.result c.args.call.now c.args.spare c.call.result (c.call.ensures.output _ there) c.in_default.not-Came
+    no_other_make (name_in c.args.r.now c.args.self.now at) c.seeded_hash_key-hash.result c.of.result c.args.call.now c.args.spare c.call.result (c.call.ensures.output _ there) c.in_default.not-Came
 
 pub returns-clause-event : goal.returns-clause-event
 returns-clause-event g c =

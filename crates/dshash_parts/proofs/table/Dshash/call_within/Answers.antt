@@ -182,7 +182,7 @@ returns-in-Err-clause-refused g c =
     let most = (seen_roomy g.O.CellObject.stepped (seen_of c.turns.pass) (λ k few. lawful g.O.CellObject.stepped g.O.CellObject.may k _ (i.own.stands.lawful k _ (c.requires.table.parts k few))) home (partition_low c.args.key.now)).to in
     crowded home (item_of c.args.self.now) c.args.key.now c.args.call.now g.O.CellObject.stepped c.args.area.now (number_of c.args.pass.now) (sight_of c.args.pass.now c.args.apass.now)
     c.partition_of_hash-number.result (number_of c.turns.pass) (seen_of c.turns.pass) (mine_of c.turns.pass) (seen_of c.try_within.new.pass) (mine_of c.try_within.new.pass) (is_some c.turns.held) same_at i.caller
-    c.turns.apass c.give_spare-in-Err.new.apass c.args.longest (is_some c.in-Err.back) (ap is_some c.in-Err.ensures.back) i.underway most
+    c.turns.apass c.give_spare-in-Err.new.apass c.args.self.now.seed c.args.longest (is_some c.in-Err.back) (ap is_some c.in-Err.ensures.back) i.underway most
     c.in-Err.ensures.crowded c.give_spare-in-Err.ensures.gave c.give_spare-in-Err.ensures.area_caller
 
 pub returns-in-Err-clause-cells : goal.returns-in-Err-clause-cells

@@ -46,4 +46,4 @@ pub came-requires : goal.came-requires
 came-requires g c =
     let n = c.partition_of_hash-number.result in
     let there = c.requires.table.parts n c.partition_of_hash-number.ensures.range in
-    is_came (name_in c.args.r.now c.args.self.now n) c.hash_key-hash.result c.of.result c.args.call.now c.args.spare c.in-Ok.answer (c.in-Ok.ensures.output _ there)
+    is_came (name_in c.args.r.now c.args.self.now n) c.own_hash-own.result c.of.result c.args.call.now c.args.spare c.in-Ok.answer (c.in-Ok.ensures.output _ there)

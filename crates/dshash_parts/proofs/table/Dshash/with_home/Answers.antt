@@ -10,10 +10,10 @@ returns-clause-table g c =
     let item = c.item_bytes-item.ensures in
     let long = c.requires.keys.1 in
     let short = c.requires.values in
-    let parts : length c.in_ok-parts.parts.items ≡ length slices = sym (length-map c.in_ok-parts.parts.items _) ∙ (ap length c.in_ok-parts.ensures ∙ length-opens _ c.args.r.now c.args.key_words c.chunk_bytes.result 0 (length slices)) in
+    let parts : length c.in_ok-parts.parts.items ≡ length slices = sym (length-map c.in_ok-parts.parts.items _) ∙ (ap length c.in_ok-parts.ensures ∙ length-opens _ c.args.r.now c.args.seed c.args.key_words c.chunk_bytes.result 0 (length slices)) in
     record {
       count = c.in_ok-shelf.ensures.counts.0 ∙ (parts ∙ c.requires.count);
-      parts = opened_in c.args.r.now c.args.key_words c.chunk_bytes.result _ (length slices) _ opens c.requires.count c.chunk_bytes.ensures.size;
+      parts = opened_in c.args.r.now c.args.seed c.args.key_words c.chunk_bytes.result _ (length slices) _ opens c.requires.count c.chunk_bytes.ensures.size;
       keys = c.requires.keys;
       items = (omega (arith, item), omega (arith, item, long, short));
     }

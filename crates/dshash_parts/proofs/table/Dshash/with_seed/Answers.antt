@@ -1,7 +1,7 @@
 use Rattle.std.proofs.Common.{◌≡◌}
 use Rattle.dshash_parts.proofs.Homes.{if_some}
 use Rattle.dshash_parts.proofs.Opening.{have_words}
-use Rattle.dshash_parts.proofs.table.Dshash.new.Goals as goal
+use Rattle.dshash_parts.proofs.table.Dshash.with_seed.Goals as goal
 
 pub with_home-requires-clause-slices : goal.with_home-requires-clause-slices
 with_home-requires-clause-slices g c κs within = have_words c.args.r.now _ c.in_ok-slices.ensures.slices
