@@ -9,7 +9,7 @@ use Rattle.dsa_area.specs.declared.area.Area.{Area}
 use Rattle.dsa_area.specs.declared.area.AreaPass.{AreaPass}
 use Rattle.dshash_core.specs.Key.{packed_key}
 use Rattle.dshash_parts.specs.States.{PartitionState}
-use Rattle.dshash_parts.specs.Tables.{item_of}
+use Rattle.dshash_parts.specs.Tables.{item_of, seed_of}
 use Rattle.dshash_parts.specs.Traces.{Event, sight_of, Trace}
 use Rattle.dshash_parts.specs.Within.{CallEnded}
 use Rattle.dshash_parts.specs.declared.asks.TableAnswer.{TableAnswer}
@@ -38,4 +38,4 @@ module _ {O : Type 0} {g : Ghosts (Numbered O AggState AggState (Unit {0})) Tabl
   pub is_ended : (group : Group) (why : NoRoom) → CallEnded step t a p u q w (packed_key group.0) group.1 longest_chain why
       → IsLeft (record { turns = mine_of p; pages = pages_mine u }) (record { turns = mine_of q; pages = pages_mine w }) group
   is_ended group (Space lack) x = is_left step a (number_of p) group (sight_of p u) (sight_of q w) x.0 x.2 (item_of t) lack.pages lack.largest x.1
-  is_ended group Chain x = is_away step a (number_of p) group (sight_of p u) (sight_of q w) x.0 x.2 (item_of t) x.1
+  is_ended group Chain x = is_away step a (number_of p) group (sight_of p u) (sight_of q w) x.0 x.2 (item_of t) (seed_of t) x.1

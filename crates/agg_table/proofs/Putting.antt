@@ -69,11 +69,11 @@ module _ (step : Option AggState → AggState → Option AggState × Unit {0}) (
         cause = inl (let l = all_lacks step a n v w es t in omega (arith, l, one_more));
       }
 
-  pub is_away : (item : ℕ) → IsCrowdedOut number item key g.1 longest_chain es → IsLeft before after g
-  is_away item r =
+  pub is_away : (item seed : ℕ) → IsCrowdedOut number item key g.1 seed longest_chain es → IsLeft before after g
+  is_away item seed r =
       let grew = all_grew step a n number v w es t in
-      let there = crowded_there (IsMissing key g.1) number item key g.1 longest_chain es r (λ s. (refl, refl)) grew.more grew.are in
-      let away = crowded_there (IsTurnedAway longest_chain key g.1) number item key g.1 longest_chain es r (λ s. (refl, refl, refl)) grew.more grew.are in
+      let there = crowded_there (IsMissing key g.1) number item key g.1 seed longest_chain es r (λ s. (refl, refl)) grew.more grew.are in
+      let away = crowded_there (IsTurnedAway longest_chain key g.1) number item key g.1 seed longest_chain es r (λ s. (refl, refl, refl)) grew.more grew.are in
       record {
         done = λ i. done_then made_call step a n i v w es t ∙ ap (λ (l : List Group). done_in (v.mine i) ++ l) (none_done made_call i es r.none) ∙ append-nil (done_in (v.mine i));
         kept = kept;

@@ -59,7 +59,7 @@ module _ (name : List ℕ) where
       (keys_same_or_not name k)
   quiet_or_not before left (Call k c spare) LacksItem h = inl (refl, sym (one stepped name before left (Call k c spare) LacksItem h))
   quiet_or_not before left (Call k c spare) (HasToGrow size back) h = inl (refl, sym (one stepped name before left (Call k c spare) (HasToGrow size back) h))
-  quiet_or_not before left (Call k c spare) (Crowded longest back) h = inl (refl, sym (one stepped name before left (Call k c spare) (Crowded longest back) h))
+  quiet_or_not before left (Call k c spare) (Crowded seed longest back) h = inl (refl, sym (one stepped name before left (Call k c spare) (Crowded seed longest back) h))
   quiet_or_not before left (Call k c spare) (HasSize size keys) h = absurd h
   quiet_or_not before left (Call k c spare) (Moved words) h = absurd h
   quiet_or_not before left (Call k c spare) (Listed entries) h = absurd h
@@ -83,7 +83,7 @@ module _ (name : List ℕ) where
         (keys_same_or_not name k)
     others_leave by ne page (Call k c spare) LacksItem lets = refl
     others_leave by ne page (Call k c spare) (HasToGrow size back) lets = refl
-    others_leave by ne page (Call k c spare) (Crowded longest back) lets = refl
+    others_leave by ne page (Call k c spare) (Crowded seed longest back) lets = refl
     others_leave by ne page (Call k c spare) (HasSize size keys) lets = refl
     others_leave by ne page (Call k c spare) (Moved words) lets = refl
     others_leave by ne page (Call k c spare) (Listed entries) lets = refl

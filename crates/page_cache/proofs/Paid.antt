@@ -46,7 +46,7 @@ idle : (count : PageCall → Option Page → ℕ) (call : Asks) (reply : Answers
 idle count (Call name call spare) (Made before unused freed) h = absurd (h before unused freed refl)
 idle count (Call name call spare) LacksItem h = refl
 idle count (Call name call spare) (HasToGrow size back) h = refl
-idle count (Call name call spare) (Crowded longest back) h = refl
+idle count (Call name call spare) (Crowded seed longest back) h = refl
 idle count (Call name call spare) (HasSize size keys) h = refl
 idle count (Call name call spare) (Moved left) h = refl
 idle count (Call name call spare) (Listed entries) h = refl
@@ -64,7 +64,7 @@ none_pays t (Asked request ∷ es) h = (t, refl, none_pays t es h)
 none_pays t (Turn number call (Made reply unused freed) ∷ es) h = absurd h
 none_pays t (Turn number call LacksItem ∷ es) h = idles t t number call LacksItem es (λ b u f e. absurd (cc)) (none_pays t es h)
 none_pays t (Turn number call (HasToGrow size back) ∷ es) h = idles t t number call (HasToGrow size back) es (λ b u f e. absurd (cc)) (none_pays t es h)
-none_pays t (Turn number call (Crowded longest back) ∷ es) h = idles t t number call (Crowded longest back) es (λ b u f e. absurd (cc)) (none_pays t es h)
+none_pays t (Turn number call (Crowded seed longest back) ∷ es) h = idles t t number call (Crowded seed longest back) es (λ b u f e. absurd (cc)) (none_pays t es h)
 none_pays t (Turn number call (HasSize size keys) ∷ es) h = idles t t number call (HasSize size keys) es (λ b u f e. absurd (cc)) (none_pays t es h)
 none_pays t (Turn number call (Moved left) ∷ es) h = idles t t number call (Moved left) es (λ b u f e. absurd (cc)) (none_pays t es h)
 none_pays t (Turn number call (Listed entries) ∷ es) h = idles t t number call (Listed entries) es (λ b u f e. absurd (cc)) (none_pays t es h)
