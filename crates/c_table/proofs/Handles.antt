@@ -28,18 +28,18 @@ pub lists : (old new : Option Share) (partition : ℕ) (keys words keys' words' 
 lists old new partition keys words keys' words' code n s t was is listed = subst (λ (o : Option Share). ListsKeys o new partition keys words keys' words' code n) (sym was) (t, is, listed)
 
 -- the first caller of a new table is put into a blank handle, or there is no memory for that
-pub opens : (callers words : ℕ) (first first' : Option Share) (code : Code) (s : Share) → first ≡ None → IsFirst callers words s → Fills s first' code → Opens callers words first first' code
-opens callers words first first' Done s blank made fills = (blank, (s, fills, made))
-opens callers words first first' NoMemory s blank made fills = (tt, blank, fills)
-opens callers words first first' WouldBlock s blank made fills = absurd fills
-opens callers words first first' Absent s blank made fills = absurd fills
-opens callers words first first' Grown s blank made fills = absurd fills
-opens callers words first first' Blank s blank made fills = absurd fills
-opens callers words first first' BadSize s blank made fills = absurd fills
-opens callers words first first' BadCallers s blank made fills = absurd fills
-opens callers words first first' NoSpace s blank made fills = absurd fills
-opens callers words first first' ShortBuffer s blank made fills = absurd fills
-opens callers words first first' InUse s blank made fills = absurd fills
+pub opens : (callers words seed : ℕ) (first first' : Option Share) (code : Code) (s : Share) → first ≡ None → IsFirst callers words seed s → Fills s first' code → Opens callers words seed first first' code
+opens callers words seed first first' Done s blank made fills = (blank, (s, fills, made))
+opens callers words seed first first' NoMemory s blank made fills = (tt, blank, fills)
+opens callers words seed first first' WouldBlock s blank made fills = absurd fills
+opens callers words seed first first' Absent s blank made fills = absurd fills
+opens callers words seed first first' Grown s blank made fills = absurd fills
+opens callers words seed first first' Blank s blank made fills = absurd fills
+opens callers words seed first first' BadSize s blank made fills = absurd fills
+opens callers words seed first first' BadCallers s blank made fills = absurd fills
+opens callers words seed first first' NoSpace s blank made fills = absurd fills
+opens callers words seed first first' ShortBuffer s blank made fills = absurd fills
+opens callers words seed first first' InUse s blank made fills = absurd fills
 
 -- a further caller is put into a blank handle, or there is no memory for that
 pub shares_made : (words : ℕ) (s t u : Share) (next : Option Share) (code : Code) → IsFurther words s t (Ok u) → Fills u next code → SharesOne words s t next code

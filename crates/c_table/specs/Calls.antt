@@ -45,11 +45,11 @@ Fills s new Done = new ≡ Some s
 Fills s new NoMemory = new ≡ None
 Fills s new code = ⊥
 
--- the handle of the first caller of a new table
-abbrev pub Opens : ℕ → ℕ → Option Share → Option Share → Code → Type 0
-Opens callers words first first' Done = (first ≡ None) × ((s : Share) × (first' ≡ Some s) × IsFirst callers words s)
-Opens callers words first first' InUse = IsSome first × (first' ≡ first)
-Opens callers words first first' code = IsRefused callers words code × (first ≡ None) × (first' ≡ None)
+-- the handle of the first caller of a new table with a seed
+abbrev pub Opens : ℕ → ℕ → ℕ → Option Share → Option Share → Code → Type 0
+Opens callers words seed first first' Done = (first ≡ None) × ((s : Share) × (first' ≡ Some s) × IsFirst callers words seed s)
+Opens callers words seed first first' InUse = IsSome first × (first' ≡ first)
+Opens callers words seed first first' code = IsRefused callers words code × (first ≡ None) × (first' ≡ None)
 
 -- a further caller: of a caller whose share was s and is t, by what came of it
 abbrev pub SharesOne : ℕ → Share → Share → Option Share → Code → Type 0

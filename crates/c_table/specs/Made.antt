@@ -1,7 +1,7 @@
 -- What the first caller of a new table and a further one are, and when there is none.
 use Rattle.std.specs.Prelude.{◌≡◌, ℕ, ◌+◌, ◌<◌, ◌⊎◌, [], length, Result, Ok, Err}
 use Rattle.lock_book.specs.Shown.{mine_of, number_of, seen_of}
-use Rattle.dshash_parts.specs.Tables.{callers_of}
+use Rattle.dshash_parts.specs.Tables.{callers_of, seed_of}
 use Rattle.std_alloc.specs.Arc.{arc_value}
 use Rattle.c_table.specs.Shares.{words_of}
 use Rattle.c_table.specs.Tries.{Stays}
@@ -9,10 +9,11 @@ use Rattle.c_table.specs.declared.code.Code.{Code}
 use Rattle.c_table.specs.declared.code.Code.TheVariants.{BadCallers, BadSize, NoMemory, NoSpace}
 use Rattle.c_table.specs.declared.shared.Share.{Share}
 
--- the one caller that has a share of a table for this many callers: the last by its number, has seen nothing, and has
--- all words
-pub record IsFirst (callers words : ℕ) (s : Share) : Type 0 where
+-- the one caller that has a share of a table for this many callers, with this seed: the last by its number, has seen
+-- nothing, and has all words
+pub record IsFirst (callers words seed : ℕ) (s : Share) : Type 0 where
   pub callers_are : callers_of (arc_value s.shared).table ≡ callers
+  pub seed_is : seed_of (arc_value s.shared).table ≡ seed
   pub others : length s.others.items + 1 ≡ callers
   pub words_are : (s.reserve.left ≡ words) × (words_of s ≡ words)
   pub number : number_of s.pass + 1 ≡ callers

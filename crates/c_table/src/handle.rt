@@ -215,13 +215,13 @@ fn told_count(answer: Result<u64, Code>, keys: &mut u64) -> Code
 }
 
 /// Makes a table as `new_table` does, and puts its first caller into a blank handle.
-pub fn open(alloc: Global, callers: u32, words: u64, first: &mut Handle) -> Code
-    ensures { Opens callers words first.old.value first.new.value result }
+pub fn open(alloc: Global, callers: u32, words: u64, seed: u64, first: &mut Handle) -> Code
+    ensures { Opens callers words seed first.old.value first.new.value result }
 {
     if !first.is_blank(alloc) {
         return Code::InUse;
     }
-    match new_table(alloc, callers, words) {
+    match new_table(alloc, callers, words, seed) {
         Ok(caller) => fill(alloc, first, caller),
         Err(code) => code,
     }

@@ -21,17 +21,19 @@ const OWN_WORDS: u64 = 129;
 /// The most words of a region.
 const MOST_WORDS: u64 = 67_108_864;
 
-/// An empty table for this many callers in its own region, with this many words for them.
+/// An empty table for this many callers in its own region, with this many words for them, and this seed.
 #[tactic(auto, using(word_map::proofs::Maps::answers, std::proofs::lemmas::Bool::Decides::nat_tests))]
-fn assemble(alloc: Global, callers: u32, words: u64) -> Result<Caller, AllocError>
+fn assemble(alloc: Global, callers: u32, words: u64, seed: u64) -> Result<Caller, AllocError>
     requires callers { 1 ≤ callers }
     requires few { words + 129 ≤ 67108864 }
-    ensures { IfOk result (λ c. IsFirst callers words c) }
+    ensures { IfOk result (λ c. IsFirst callers words seed c) }
 {
     let (region, mut part) = Region::new(alloc, (words + OWN_WORDS) as usize)?;
     let slices = cut_slices(alloc, &region, &mut part, 1)?;
     let reserve = Reserve::of_part(part, OWN_WORDS, words);
-    let (table, mut others) = Dshash::on_slices(alloc, &region, slices, 1, callers)?;
+    let (table, mut others) = Dshash::on_slices_with_seed(
+        alloc, &region, slices, seed, 1, callers,
+    )?;
     let Some(pass) = others.pop() else {
         unreachable!()
     };
@@ -50,9 +52,10 @@ fn assemble(alloc: Global, callers: u32, words: u64) -> Result<Caller, AllocErro
 
 /// An empty table of words under keys of one word, for this many callers, and the first of them, which has all words
 /// that are brought: each new key takes four, and a partition that grows to `n` buckets `n`. It takes memory for the
-/// words, the locks and the passes.
-pub fn new_table(alloc: Global, callers: u32, words: u64) -> Result<Caller, Code>
-    ensures made { IfOk result (λ c. IsFirst callers words c) }
+/// words, the locks and the passes. The seed is that of the hashes that say a key's bucket, 0 for none: draw one if
+/// strangers choose the keys, and keep it from them.
+pub fn new_table(alloc: Global, callers: u32, words: u64, seed: u64) -> Result<Caller, Code>
+    ensures made { IfOk result (λ c. IsFirst callers words seed c) }
     ensures refused { IfErr result (λ code. IsRefused callers words code) }
 {
     if callers == 0 || callers > MOST_CALLERS {
@@ -61,7 +64,7 @@ pub fn new_table(alloc: Global, callers: u32, words: u64) -> Result<Caller, Code
     if words > MOST_WORDS - OWN_WORDS {
         return Err(Code::BadSize);
     }
-    match assemble(alloc, callers, words) {
+    match assemble(alloc, callers, words, seed) {
         Ok(caller) => Ok(caller),
         Err(_) => Err(Code::NoMemory),
     }

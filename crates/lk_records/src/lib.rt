@@ -28,9 +28,23 @@ pub extern "C" fn lk_raw_records_new(
     words: u64,
     first: &mut Handle,
 ) -> i32
-    ensures { (code : TheCode) × (result ≡ number_of code) × Opens callers words first.old.value first.new.value code }
+    ensures { (code : TheCode) × (result ≡ number_of code) × Opens callers words 0 first.old.value first.new.value code }
 {
-    open(alloc, callers, words, first).number()
+    open(alloc, callers, words, 0, first).number()
+}
+
+/// The same, with a seed for the hashes that say a key's bucket: for keys that strangers choose, who don't know it.
+#[unsafe(no_mangle)]
+pub extern "C" fn lk_raw_records_new_with_seed(
+    alloc: Global,
+    callers: u32,
+    words: u64,
+    seed: u64,
+    first: &mut Handle,
+) -> i32
+    ensures { (code : TheCode) × (result ≡ number_of code) × Opens callers words seed first.old.value first.new.value code }
+{
+    open(alloc, callers, words, seed, first).number()
 }
 
 /// A further caller in a blank handle, which gets this many words of the one that is asked. It takes memory for the

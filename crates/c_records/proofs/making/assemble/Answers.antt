@@ -5,7 +5,7 @@ use Rattle.atomic_table.specs.Seated.{TableId}
 use Rattle.std_alloc.specs.Arc.{arc_value}
 use Rattle.region_words.specs.declared.chunk.Chunk.{Chunk}
 use Rattle.lock_book.specs.Shown.{mine_of, number_of, seen_of}
-use Rattle.dshash_parts.specs.Tables.{Belongs, callers_of}
+use Rattle.dshash_parts.specs.Tables.{Belongs, callers_of, seed_of}
 use Rattle.c_records.specs.Items.{IsItem}
 use Rattle.c_table.specs.Reserves.{IsReserve, chunk_words}
 use Rattle.c_records.specs.Shares.{IsShared}
@@ -32,6 +32,7 @@ returns c =
     let t = c.in_ok-table.ensures in
     record {
       callers_are = ap (λ (x : Shared). callers_of x.table) c.in_ok-shared.ensures.ok ∙ t.callers;
+      seed_is = ap (λ (x : Shared). seed_of x.table) c.in_ok-shared.ensures.ok ∙ t.seed;
       others = omega (arith, ap length c.in-Some.ensures.items, length-append c.pop.new.self.items (c.in-Some.pass ∷ []), t.passes.count, t.callers);
       words_are =
           let left : c.of_part-reserve.result.left ≡ c.args.words = c.of_part-reserve.ensures.1 in
