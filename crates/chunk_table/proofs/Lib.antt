@@ -1,0 +1,3 @@
+pub mod Legals
+pub mod Others
+pub mod Founds

@@ -1,0 +1,4 @@
+pub mod Asked
+pub mod Tables
+pub mod Promises
+pub mod Ending

@@ -1,0 +1,4 @@
+pub mod Named
+pub mod Held
+pub mod Stored
+pub mod Outcomes
