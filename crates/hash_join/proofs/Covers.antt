@@ -1,6 +1,6 @@
 -- The law of the first round: whatever rows the participants put in and in which order, the entries of the closed table
 -- and the links cover all rows that have a field.
-use Rattle.std.proofs.Common.{◌≡◌, ◌<◌, ◌≤◌, ◌*◌, ◌++◌, ℕ, zero, suc, Bool, true, false, cond, filter, List, [], ◌∷◌, Contains, Option, Some, None, length, map, slice_get, slice_index_or, ap, sym, subst, ◌∙◌, arith}
+use Rattle.std.proofs.Common.{◌≡◌, ◌<◌, ◌≤◌, ◌++◌, ℕ, zero, suc, Bool, true, false, cond, filter, List, [], ◌∷◌, Contains, Option, Some, None, length, map, slice_get, slice_index_or, ap, sym, subst, ◌∙◌, arith}
 use Rattle.std.specs.FinMap as fin
 use Rattle.std.specs.Cmp.Lexicographic.{slice_cmp}
 use Rattle.std.specs.List.{flat_map}
@@ -12,9 +12,8 @@ use Rattle.std.proofs.lemmas.List.Sorted.{length_permutation}
 use Rattle.csv_rows.specs.Records.{field_of}
 use Rattle.lock_book.specs.History.{IsLegal, calls_by, row_at}
 use Rattle.rel_pointer.specs.Bytes.{AllBytes, packed_words}
-use Rattle.rel_pointer.proofs.Words.{packed_words-same}
 use Rattle.dshash_core.specs.Cells.{partition_of}
-use Rattle.dshash_core.specs.Key.{hash_of, packed_key}
+use Rattle.dshash_core.specs.Key.{hash_of}
 use Rattle.dshash_parts.specs.Legal.{PartitionLegal}
 use Rattle.dshash_parts.specs.Replays.{IsRun, calls_of_key}
 use Rattle.dshash_parts.specs.States.{fresh}
@@ -24,32 +23,24 @@ use Rattle.dshash_parts.proofs.Uses.{partition_low}
 use Rattle.row_blocks.specs.Blocks.{Table, numbers_of}
 use Rattle.join_pairs.specs.Chains.{last_step}
 use Rattle.join_pairs.specs.Gathered.{IsCovered}
-use Rattle.join_pairs.specs.Join.{AllAccepted, IsRow, keyed}
+use Rattle.join_pairs.specs.Join.{IsRow, keyed}
 use Rattle.join_pairs.specs.declared.chains.Link.{Link}
 use Rattle.hash_join.specs.Filled.{RowEntry, calls_at, done_in, key_of, partition_at}
 use Rattle.hash_join.specs.Listed.{ListsEach}
+use Rattle.hash_join.specs.Widths.{field_words}
 use Rattle.hash_join.proofs.Covering.{key_rows}
 use Rattle.hash_join.proofs.Entered.{IsEntry, entry_chain, itself, key_is, length-map}
 use Rattle.hash_join.proofs.Flattened.{IsStated, all_stated, entry_of}
 use Rattle.hash_join.proofs.Gathers.{links_are_once, links_are_rows, rows_of}
 use Rattle.hash_join.proofs.Listing.{by_key, member_at}
+use Rattle.hash_join.proofs.Fits.{field_fits, packs_same}
 
 -- ---- fields by their keys
 
-packs_same : (n : ℕ) (x y : List ℕ) → AllBytes x → AllBytes y → length x ≤ 8 * n → ◌≡◌ {A = List ℕ} (length x ∷ packed_words n x) (length y ∷ packed_words n y) → x ≡ y
-packs_same n x y a b short e =
-    let long : length x ≡ length y = cc in
-    let words : packed_words n x ≡ packed_words n y = cc in
-    packed_words-same n x y a b long short words
-
-keys_same : (x y : List ℕ) → AllBytes x → AllBytes y → length x ≤ 248 → packed_key x ≡ packed_key y → x ≡ y
-unfolding packed_key
-keys_same x y a b short e = packs_same 31 x y a b short e
-
 -- rows that have one key have one field
-pub rows_tell : (records : Table) (column : ℕ) → AllAccepted records column → ((row : ℕ) → IsRow records row → AllBytes (field_of records row column))
+pub rows_tell : (records : Table) (column : ℕ) → ((row : ℕ) → IsRow records row → AllBytes (field_of records row column))
     → (a b : ℕ) → IsRow records a → IsRow records b → key_of records column a ≡ key_of records column b → field_of records a column ≡ field_of records b column
-rows_tell records column accepted bytes a b ra rb e = keys_same (field_of records a column) (field_of records b column) (bytes a ra) (bytes b rb) (accepted a ra).short e
+rows_tell records column bytes a b ra rb e = packs_same (field_words records column) (field_of records a column) (field_of records b column) (bytes a ra) (bytes b rb) (field_fits records column a ra) e
 
 -- ---- runs
 
@@ -118,6 +109,6 @@ module _ (records : Table) (column : ℕ) (history : ℕ → List RowEntry) (ps 
     chains = λ k e g. (entered k e g).chain;
     once = λ j k d e f g same.
         by_key entries j k d e (all_stated records column history ps made no_others lawful entries listed).once f g
-        (sym (entered j d f).here.1 ∙ (ap packed_key same ∙ (entered k e g).here.1));
+        (sym (entered j d f).here.1 ∙ (ap (λ (f : List ℕ). length f ∷ packed_words (field_words records column) f) same ∙ (entered k e g).here.1));
     each = has_entry;
   }

@@ -1,5 +1,5 @@
 -- A row that was not put into the table, whatever the cause.
-use Rattle.std.proofs.Common.{◌≡◌, ◌++◌, ◌∷◌, [], ℕ, List, Option, false}
+use Rattle.std.proofs.Common.{◌≡◌, ◌++◌, ◌∷◌, [], ℕ, List, false}
 use Rattle.atomic_table.specs.Seated.{TableId}
 use Rattle.csv_rows.specs.Records.{field_of}
 use Rattle.lock_book.specs.declared.kept.Kept.{Ghosts}
@@ -9,7 +9,7 @@ use Rattle.dsa_area.specs.Shown.{pages_mine}
 use Rattle.dsa_area.specs.declared.area.Area.{Area}
 use Rattle.dsa_area.specs.declared.area.AreaPass.{AreaPass}
 use Rattle.dshash_parts.specs.States.{PartitionState}
-use Rattle.dshash_parts.specs.Tables.{item_of}
+use Rattle.dshash_parts.specs.Tables.{item_of, seed_of}
 use Rattle.dshash_parts.specs.Traces.{sight_of}
 use Rattle.dshash_parts.specs.Within.{CallEnded}
 use Rattle.dshash_parts.specs.declared.asks.TableAnswer.{TableAnswer}
@@ -34,4 +34,4 @@ module _ (records : Table) (column row : ℕ) {O : Type 0} {g : Ghosts (Numbered
     (rows : List ℕ) (links : List Link) (spilled : List ℕ) (some : is_null (field_of records row column) ≡ false) (h : HasPut records column rows (mine_of p) (pages_mine u) links spilled) where
   pub put_ended : (why : NoRoom) → CallEnded last_step t a p u q w (key_of records column row) row longest_chain why → HasPut records column (rows ++ row ∷ []) (mine_of q) (pages_mine w) links (spilled ++ row ∷ [])
   put_ended (Space lack) x = put_spilled records column row a (number_of p) (sight_of p u) (sight_of q w) x.0 x.2 rows links spilled some h (item_of t) lack.pages lack.largest x.1
-  put_ended Chain x = put_away records column row a (number_of p) (sight_of p u) (sight_of q w) x.0 x.2 rows links spilled some h (item_of t) x.1
+  put_ended Chain x = put_away records column row a (number_of p) (sight_of p u) (sight_of q w) x.0 x.2 rows links spilled some h (item_of t) (seed_of t) x.1

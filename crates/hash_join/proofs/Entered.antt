@@ -14,7 +14,8 @@ use Rattle.std.proofs.lemmas.Map.Views.{tells_apart}
 use Rattle.csv_rows.specs.Records.{field_of}
 use Rattle.lock_book.specs.History.{IsLegal, calls_by, row_at}
 use Rattle.dshash_core.specs.Cells.{partition_of}
-use Rattle.dshash_core.specs.Key.{hash_of, packed_key}
+use Rattle.rel_pointer.specs.Bytes.{packed_words}
+use Rattle.dshash_core.specs.Key.{hash_of}
 use Rattle.dshash_parts.specs.Legal.{PartitionLegal}
 use Rattle.dshash_parts.specs.Replays.{IsRun, calls_of_key}
 use Rattle.dshash_parts.specs.States.{fresh}
@@ -24,6 +25,7 @@ use Rattle.dshash_parts.proofs.Uses.{partition_low}
 use Rattle.row_blocks.specs.Blocks.{Table}
 use Rattle.join_pairs.specs.Chains.{HasChain, IsChain, IsRun as IsRowRun, before_in, last_step, rows_with}
 use Rattle.hash_join.specs.Filled.{RowEntry, calls_at, done_in, key_of}
+use Rattle.hash_join.specs.Widths.{field_words}
 use Rattle.join_pairs.specs.Gathered.{linked}
 use Rattle.join_pairs.specs.Join.{IsRow}
 use Rattle.join_pairs.specs.Law.{latest_first}
@@ -106,7 +108,7 @@ module _ (records : Table) (column : ℕ) (history : ℕ → List RowEntry) (ps 
       by true e = bytes_same (field_of records l.row column) (field_of records last column) (tells l.row last r h.0 (key_is key l e ∙ sym h.1))
       by false e =
           other_bytes (field_of records l.row column) (field_of records last column)
-          (λ same. let keys : key_of records column l.row ≡ key = ap (λ (f : List ℕ). packed_key f) same ∙ h.1 in
+          (λ same. let keys : key_of records column l.row ≡ key = ap (λ (f : List ℕ). length f ∷ packed_words (field_words records column) f) same ∙ h.1 in
           let yes : same_key key l ≡ true = ap (λ (k : List ℕ). eq_by_cmp (slice_cmp nat_cmp) key k) keys ∙ itself key in
           let no : true ≡ false = sym yes ∙ e in absurd (cc))
 

@@ -187,7 +187,7 @@ module _ (records : Table) (column : ℕ) (s : Store) (c : Claims) (fs : List Fi
       home_covered accepted bytes drawn =
           subst (λ (ls : List Link). IsCovered records column entries ls (flat_map (λ v. v.items) h.spilled.items)) (sym same_links)
           (subst (λ (ss : List ℕ). IsCovered records column entries (flat_map (λ (l : List Link). l) links) ss) (sym same_spilled)
-          (covered records column history links made no_others closed.lawful (rows_tell records column accepted bytes) entries closed.listed (flat_map (λ (l : List ℕ). l) spilled) (all_rows_put drawn)))
+          (covered records column history links made no_others closed.lawful (rows_tell records column bytes) entries closed.listed (flat_map (λ (l : List ℕ). l) spilled) (all_rows_put drawn)))
 
       were_put : (n : ℕ) (f : Filler) → get_elem? fs n ≡ some f → WerePut records column (numbers_of_blocks records (draws_of f.claim)) (λ number. calls_by n (history number)) (pages_mine f.area)
       were_put n f e = record {

@@ -12,3 +12,4 @@ pub mod Putting
 pub mod Rounds
 pub mod Seen
 pub mod Ended
+pub mod Fits

@@ -121,11 +121,11 @@ module _ (records : Table) (column row : ℕ) where
         r.none
         (causes_lacked (WasTurnedAway records column v.mine) (WasTurnedAway records column w.mine) still_away spilled (lacks (pages_mine v.area)) (lacks (pages_mine w.area)) h.causes row (omega (arith, all, one_more)))
 
-    pub put_away : (item : ℕ) → IsCrowdedOut number item key row longest_chain es → HasPut records column (rows ++ row ∷ []) w.mine (pages_mine w.area) links (spilled ++ row ∷ [])
-    put_away item r =
+    pub put_away : (item seed : ℕ) → IsCrowdedOut number item key row seed longest_chain es → HasPut records column (rows ++ row ∷ []) w.mine (pages_mine w.area) links (spilled ++ row ∷ [])
+    put_away item seed r =
         let g = all_grew last_step a n number v w es t in
-        let there = crowded_there (IsMissing key row) number item key row longest_chain es r (λ s. (refl, refl)) g.more g.are in
-        let away = crowded_there (IsTurnedAway longest_chain key row) number item key row longest_chain es r (λ s. (refl, refl, refl)) g.more g.are in
+        let there = crowded_there (IsMissing key row) number item key row seed longest_chain es r (λ s. (refl, refl)) g.more g.are in
+        let away = crowded_there (IsTurnedAway longest_chain key row) number item key row seed longest_chain es r (λ s. (refl, refl, refl)) g.more g.are in
         spills
         (subst (Any IsEntry) (sym g.grows) (any_right IsEntry (v.mine number) g.more there))
         r.none

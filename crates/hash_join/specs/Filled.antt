@@ -1,10 +1,10 @@
 -- What a participant made of the rows of its blocks: the calls of the table that it made, and those that found no
 -- room.
-use Rattle.std.specs.Prelude.{◌≡◌, ◌<◌, ◌≤◌, ◌==◌, ◌++◌, ℕ, List, All, Any, filter, length, map}
+use Rattle.std.specs.Prelude.{◌≡◌, ◌<◌, ◌==◌, ◌++◌, ◌∷◌, ℕ, List, All, Any, filter, length, map}
 use Rattle.std.specs.List.Sorted.{IsPermutation}
 use Rattle.csv_rows.specs.Records.{field_of}
 use Rattle.dshash_core.specs.Cells.{partition_of}
-use Rattle.dshash_core.specs.Key.{hash_of, packed_key}
+use Rattle.dshash_core.specs.Key.{hash_of}
 use Rattle.dshash_parts.specs.Done as done
 use Rattle.dshash_parts.specs.Done.{HaveCauses, IsMissing, IsTurnedAway, PageEntry, lacks}
 use Rattle.dshash_parts.specs.States.{PartitionState}
@@ -12,8 +12,10 @@ use Rattle.dshash_parts.specs.declared.histories.PartitionCalls.{PartitionCalls}
 use Rattle.dshash_parts.specs.declared.histories.PartitionReplies.{PartitionReplies}
 use Rattle.row_blocks.specs.Blocks.{Table}
 use Rattle.lock_book.specs.declared.view.Entry.{Entry}
+use Rattle.rel_pointer.specs.Bytes.{packed_words}
 use Rattle.join_pairs.specs.Join.{keyed}
 use Rattle.join_pairs.specs.declared.chains.Link.{Link}
+use Rattle.hash_join.specs.Widths.{field_words}
 
 -- an entry in the history of a partition of the table of left rows
 abbrev pub RowEntry : Type 0
@@ -40,9 +42,9 @@ abbrev pub longest_chain : ℕ
 longest_chain = 64
 
 module _ (records : Table) (column : ℕ) where
-  -- the key of a row in the table
+  -- the key of a row in the table: the length of its field, and its bytes in as many words as the longest field takes
   abbrev pub key_of : ℕ → List ℕ
-  key_of row = packed_key (field_of records row column)
+  key_of row = length (field_of records row column) ∷ packed_words (field_words records column) (field_of records row column)
 
   -- the partition of a row
   abbrev pub partition_at : ℕ → ℕ

@@ -4,3 +4,4 @@ pub mod Home
 pub mod Listed
 pub mod Stores
 pub mod Used
+pub mod Widths

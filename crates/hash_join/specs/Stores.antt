@@ -1,5 +1,5 @@
 -- The shared table of the left rows with its area, and a participant's passes.
-use Rattle.std.specs.Prelude.{◌≡◌, ℕ, IsTrue, List, []}
+use Rattle.std.specs.Prelude.{◌≡◌, ◌≤◌, ℕ, IsTrue, List, []}
 use Rattle.dsa_area.specs.Shown.{Belongs as AreaBelongs, IsArea, number_of as area_number, pages_mine}
 use Rattle.dshash_parts.specs.Tables.{Belongs as TableBelongs, IsHome, IsTable, key_words_of}
 use Rattle.lock_book.specs.Shown.{mine_of, number_of}
@@ -11,12 +11,13 @@ use Rattle.hash_join.specs.Filled.{HasPut}
 use Rattle.hash_join.specs.declared.store.Store.{Store}
 use Rattle.hash_join.specs.declared.filling.Filler.{Filler}
 
--- a table of keys of 32 words, made with an area of the same region
+-- a table of keys of so many words as the store says, made with an area of the same region
 pub record IsStore (s : Store) : Type 0 where
   pub area : IsArea s.region s.area
   pub table : IsTable s.region s.table
   pub home : IsHome s.area s.table
-  pub keys : key_words_of s.table ≡ 32
+  pub keys : key_words_of s.table ≡ s.key_words
+  pub short : s.key_words ≤ 32
 
 -- the participant's passes are of this table and its area
 pub record Holds (s : Store) (f : Filler) : Type 0 where

@@ -9,8 +9,10 @@ ghost use Rattle.scan_claim.specs.Shown.{Belongs, blocks_of, draws_of};
 ghost use Rattle.row_blocks.specs.Blocks.{AreBlocks, block_numbers};
 ghost use Rattle.join_pairs.specs.Join.{AllAccepted, IsAccepted, IsRow, width_of};
 ghost use Rattle.hash_join.specs.Stores.{DidDraw, DidPut, HasFilled, Holds, IsNew, IsSame, IsStore};
+ghost use Rattle.hash_join.specs.Widths.{key_words};
 
 use crate::store::Store;
+use crate::widths::cut_key;
 use csv_rows::RowStore;
 use dsa_area::AreaPass;
 use dshash_core::pack_key;
@@ -52,6 +54,7 @@ fn put_row<R: Wait>(
     row: u64,
 ) -> Result<(), AllocError>
     requires store { IsStore store.now }
+    requires words { store.now.key_words ≡ key_words rows.now column }
     requires own { Holds store.now filler.old }
     requires row { IsRow rows.now row }
     requires accepted { IsAccepted rows.now column row }
@@ -65,16 +68,17 @@ fn put_row<R: Wait>(
     if field.is_empty() {
         return Ok(());
     }
-    let Some(key) = pack_key(field) else {
+    let Some(packed) = pack_key(field) else {
         unreachable!()
     };
+    let key = cut_key(&packed, store.key_words);
     let put = store.table.call_within(
         rt,
         &store.region,
         &store.area,
         &mut filler.table,
         &mut filler.area,
-        &key,
+        key,
         &row,
         LONGEST_CHAIN,
     );
@@ -100,6 +104,7 @@ fn put_block<R: Wait>(
     block: u64,
 ) -> Result<(), AllocError>
     requires store { IsStore store.now }
+    requires words { store.now.key_words ≡ key_words rows.now column }
     requires own { Holds store.now filler.old }
     requires block { BLOCK_ROWS * block + 1 < length rows.now }
     requires accepted { AllAccepted rows.now column }
@@ -132,6 +137,7 @@ fn put_blocks<R: Wait>(
     filler: &mut Filler,
 ) -> Result<(), AllocError>
     requires store { IsStore store.now }
+    requires words { store.now.key_words ≡ key_words rows.now column }
     requires own { Holds store.now filler.old }
     requires seat { Belongs claims.now filler.old.claim }
     requires blocks { AreBlocks rows.now (blocks_of claims.now) }
@@ -170,6 +176,7 @@ pub(crate) fn fill<R: Wait>(
     filler: &mut Filler,
 )
     requires store { IsStore store.now }
+    requires words { store.now.key_words ≡ key_words rows.now column }
     requires own { Holds store.now filler.old }
     requires seat { Belongs claims.now filler.old.claim }
     requires blocks { AreBlocks rows.now (blocks_of claims.now) }

@@ -15,9 +15,11 @@ ghost use Rattle.join_pairs.specs.Join.{AllAccepted, IsRow, width_of};
 ghost use Rattle.hash_join.specs.Home.{AreFilled, AreFillers, AreNew, HasMet, IsClosed, IsHome};
 ghost use Rattle.hash_join.specs.Stores.{IsNew, IsStore};
 ghost use Rattle.hash_join.specs.Used.{IsShared};
+ghost use Rattle.hash_join.specs.Widths.{key_words};
 
 use crate::filling::{Filler, fill};
 use crate::store::{Passes, Store, open_store};
+use crate::widths::count_words;
 use csv_rows::RowStore;
 use dsa_area::AreaPass;
 use dshash_core::Entry;
@@ -107,15 +109,23 @@ fn fillers(alloc: Global, passes: Passes, seats: Vec<ClaimSeat>) -> Result<Vec<F
 }
 
 /// A table for this many participants, and each with its tokens.
-fn open_round(alloc: Global, rows: &RowStore, callers: u32) -> Result<Round, AllocError>
+fn open_round(
+    alloc: Global,
+    rows: &RowStore,
+    column: u32,
+    callers: u32,
+) -> Result<Round, AllocError>
     requires callers { 1 ≤ callers }
+    requires column { column < width_of rows.now }
+    requires accepted { AllAccepted rows.now column }
     ensures store { IfOk result (λ r. IsStore r.store) }
+    ensures words { IfOk result (λ r. r.store.key_words ≡ key_words rows.now column) }
     ensures blocks { IfOk result (λ r. AreBlocks rows.now (blocks_of r.claims)) }
     ensures all { IfOk result (λ r. AreFillers r.store r.claims r.fillers.items) }
     ensures count { IfOk result (λ r. length r.fillers.items ≡ callers) }
     ensures new { IfOk result (λ r. AreNew r.store r.claims r.fillers.items) }
 {
-    let (store, passes) = open_store(alloc, callers)?;
+    let (store, passes) = open_store(alloc, count_words(rows, column), callers)?;
     let (claims, seats) = Claims::new(alloc, count_blocks(rows), callers)?;
     let fillers = fillers(alloc, passes, seats)?;
     Ok(Round {
@@ -135,6 +145,7 @@ fn fill_all<R: Threads + Wait + Sync>(
     fillers: &mut Vec<Filler>,
 )
     requires store { IsStore store.now }
+    requires words { store.now.key_words ≡ key_words rows.now column }
     requires blocks { AreBlocks rows.now (blocks_of claims.now) }
     requires accepted { AllAccepted rows.now column }
     requires column { column < width_of rows.now }
@@ -282,7 +293,7 @@ pub(crate) fn gather_rows<R: Threads + Wait + Sync>(
         store,
         claims,
         mut fillers,
-    } = open_round(alloc, rows, callers)?;
+    } = open_round(alloc, rows, column, callers)?;
     fill_all(rt, &store, rows, column, &claims, &mut fillers);
     let home = bring_home(alloc, fillers)?;
     end_round(rt, alloc, rows, column, store, claims, home)

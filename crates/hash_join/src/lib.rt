@@ -28,6 +28,7 @@ use std::thread::Threads;
 mod filling;
 mod gathering;
 mod store;
+mod widths;
 
 pub use join_pairs::{LONGEST_KEY, LastRow, Link, MOST_PAIRS, Pair, Pairs};
 

@@ -18,9 +18,6 @@ use std::alloc::{AllocError, Global};
 /// The pages of the area.
 pub(crate) const PAGES: u32 = 2048;
 
-/// The words of a packed key.
-pub(crate) const KEY_WORDS: u32 = 32;
-
 /// A table, with the area of its items. Threads share it by reference.
 #[derive(Drop)]
 pub(crate) struct Store {
@@ -30,6 +27,8 @@ pub(crate) struct Store {
     pub(crate) area: Area,
     /// The last row of each key.
     pub(crate) table: Dshash<LastRow>,
+    /// The words of a key.
+    pub(crate) key_words: u32,
 }
 
 /// The passes of all callers, in order of their numbers.
@@ -44,12 +43,18 @@ pub(crate) struct Passes {
 /// The first word of the area: word 0 is no place, and the slices come next.
 const AREA_AT: u64 = 1 + PARTITIONS as u64;
 
-/// An empty table for this many callers, with its area, in one region. The table's slices are cut off before the area
+/// An empty table of keys of this many words for this many callers, with its area, in one region. The table's slices are cut off before the area
 /// gets the rest, so the area is asked for nothing, and there is no table only if there was no memory.
 #[tactic(auto, using(word_map::proofs::Maps::answers, std::proofs::lemmas::Bool::Decides::nat_tests))]
-pub(crate) fn open_store(alloc: Global, callers: u32) -> Result<(Store, Passes), AllocError>
+pub(crate) fn open_store(
+    alloc: Global,
+    key_words: u32,
+    callers: u32,
+) -> Result<(Store, Passes), AllocError>
+    requires words { (1 ≤ key_words) × (key_words ≤ 32) }
     requires callers { 1 ≤ callers }
     ensures store { IfOk result (λ s. IsStore s.0) }
+    ensures words { IfOk result (λ s. s.0.key_words ≡ key_words) }
     ensures callers { IfOk result (λ s. (area_callers s.0.area ≡ callers) × (callers_of s.0.table ≡ callers)) }
     ensures areas { IfOk result (λ s. AreAllOfArea s.0.area s.1.areas.items) }
     ensures tables { IfOk result (λ s. AreAll s.0.table s.1.tables.items) }
@@ -60,11 +65,12 @@ pub(crate) fn open_store(alloc: Global, callers: u32) -> Result<(Store, Passes),
     let slices = cut_slices(alloc, &region, &mut part, 1)?;
     let chunk = part.split_chunk(&region, AREA_AT, words);
     let (area, areas) = Area::new(alloc, &region, chunk, PAGES, callers)?;
-    let (table, tables) = Dshash::on_slices(alloc, &region, slices, KEY_WORDS, callers)?;
+    let (table, tables) = Dshash::on_slices(alloc, &region, slices, key_words, callers)?;
     let store = Store {
         region,
         area,
         table,
+        key_words,
     };
     Ok((store, Passes { areas, tables }))
 }

@@ -12,6 +12,7 @@ use Rattle.join_pairs.specs.Chains.{last_step}
 use Rattle.hash_join.specs.Filled.{HasPut, key_of, longest_chain}
 use Rattle.hash_join.proofs.Ended.{put_ended}
 use Rattle.hash_join.proofs.Putting.{put_empty, put_made}
+use Rattle.hash_join.proofs.Fits.{key_is}
 use Rattle.hash_join.proofs.filling.put_row.Goals as goal
 
 pub returns-then-is_empty-clause-put : goal.returns-then-is_empty-clause-put
@@ -26,7 +27,7 @@ returns-in-Ok-push-clause-put g c =
     let f = c.args.filler.now in
     let s = c.args.store.now in
     let some : is_null (field_of c.args.rows.now c.args.row c.args.column) ≡ false = ap is_null (sym c.field-field.ensures) ∙ sym c.is_empty.ensures ∙ c.if-is_empty.false in
-    let key : c.in-Some.key ≡ key_of c.args.rows.now c.args.column c.args.row = c.in-Some.ensures.key ∙ ap packed_key c.field-field.ensures in
+    let key : c.cut_key-key.result.now ≡ key_of c.args.rows.now c.args.column c.args.row = key_is c.args.rows.now c.args.column c.args.row s.key_words c.in-Some.packed c.cut_key-key.result.now c.requires.words c.requires.store.short (c.in-Some.ensures.key ∙ ap packed_key c.field-field.ensures) c.cut_key-key.ensures in
     let made = subst (λ (k : List ℕ). CallMade last_step s.table s.area f.table f.area c.call_within-put.new.pass c.call_within-put.new.apass k c.args.row c.in-Ok.before) key c.in-Ok.ensures.made in
     λ list h.
     subst (λ (ls : _). HasPut c.args.rows.now c.args.column (list ++ c.args.row ∷ []) (mine_of c.call_within-put.new.pass) (pages_mine c.call_within-put.new.apass) ls f.spilled.items) (sym c.in-Ok-push.ensures.items)
@@ -38,7 +39,7 @@ returns-in-Ok-push-2-clause-put g c =
     let f = c.args.filler.now in
     let s = c.args.store.now in
     let some : is_null (field_of c.args.rows.now c.args.row c.args.column) ≡ false = ap is_null (sym c.field-field.ensures) ∙ sym c.is_empty.ensures ∙ c.if-is_empty.false in
-    let key : c.in-Some.key ≡ key_of c.args.rows.now c.args.column c.args.row = c.in-Some.ensures.key ∙ ap packed_key c.field-field.ensures in
+    let key : c.cut_key-key.result.now ≡ key_of c.args.rows.now c.args.column c.args.row = key_is c.args.rows.now c.args.column c.args.row s.key_words c.in-Some.packed c.cut_key-key.result.now c.requires.words c.requires.store.short (c.in-Some.ensures.key ∙ ap packed_key c.field-field.ensures) c.cut_key-key.ensures in
     let ended = subst (λ (k : List ℕ). CallEnded last_step s.table s.area f.table f.area c.call_within-put.new.pass c.call_within-put.new.apass k c.args.row longest_chain c.in-Err.field-0) key c.in-Err.ensures.refused in
     λ list h.
     subst (λ (ss : List ℕ). HasPut c.args.rows.now c.args.column (list ++ c.args.row ∷ []) (mine_of c.call_within-put.new.pass) (pages_mine c.call_within-put.new.apass) f.links.items ss) (sym c.in-Ok-push-2.ensures.items)
