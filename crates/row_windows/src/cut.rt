@@ -15,6 +15,9 @@ use crate::header::ends_line;
 use csv_rows::{Place, past_others, past_quote, scanned, without_mark};
 use memchr::{memchr, memrchr2};
 
+/// How many bytes at the end of a text are looked at first: lines are mostly shorter.
+const LAST_BYTES: usize = 4096;
+
 /// The last place behind its first byte at which a text can be cut. In linear time.
 fn last_cut(bytes: &[u8]) -> Option<usize>
     ensures cut { IfSome result (λ at. IsCutAt bytes.now at) }
@@ -72,13 +75,28 @@ fn first_end(text: &[u8]) -> Option<usize>
     None
 }
 
-/// The last end of a line of a text that stands outside quotes, behind its first byte.
+/// The last end of a line of a text that stands outside quotes, behind its first byte. It is looked for in the last bytes
+/// first, for which the others are only scanned for quotes, and only then among all.
 fn last_end(text: &[u8]) -> Option<usize>
     ensures { IsLastBelow text.now (length text.now) result }
 {
-    let mut place = Place::Opens;
+    let from = text.len().saturating_sub(LAST_BYTES);
+    match last_from(text, from, scanned(&text[..from], Place::Opens)) {
+        Some(at) => Some(at),
+        None => last_from(text, 0, Place::Opens),
+    }
+}
+
+/// The last end of a line of a text from a place on that stands outside quotes, behind the text's first byte.
+fn last_from(text: &[u8], from: usize, here: Place) -> Option<usize>
+    requires within { from ≤ length text.now }
+    requires here { here ≡ place_after place.Opens (take from text.now) }
+    ensures some { IfSome result (IsOpenEnd text.now) }
+    ensures last { from ≡ 0 → IsLastBelow text.now (length text.now) result }
+{
+    let mut place = here;
     let mut last = None;
-    let mut at = 0;
+    let mut at = from;
     'quotes: while let Some(count) = memchr(b'"', &text[at..]) {
         last = later_end(text, at, at + count, place, last);
         place = past_quote(past_others(&text[at..at + count], place));
@@ -93,8 +111,9 @@ fn later_end(text: &[u8], from: usize, to: usize, here: Place, last: Option<usiz
     requires within { to ≤ length text.now }
     requires others { NoQuote (take (to - from) (drop from text.now)) }
     requires here { here ≡ place_after place.Opens (take from text.now) }
-    requires last { IsLastBelow text.now from last }
-    ensures { IsLastBelow text.now to result }
+    requires some { IfSome last (IsOpenEnd text.now) }
+    ensures some { IfSome result (IsOpenEnd text.now) }
+    ensures last { IsLastBelow text.now from last → IsLastBelow text.now to result }
 {
     if here == Place::Quoted {
         return last;
