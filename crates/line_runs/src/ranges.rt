@@ -35,8 +35,8 @@ impl<'a> Ranges<'a> {
     {
         let mut sample = Vec::new(alloc);
         let each = (count.saturating_mul(SAMPLE) / runs.len().max(1)).saturating_add(1);
-        for run in runs {
-            take_keys(&mut sample, run, each)?;
+        for (number, run) in runs.iter().enumerate() {
+            take_keys(&mut sample, run, each, number, runs.len())?;
         }
         sample.sort_unstable_by(|a, b| compare_columns(*a, *b, columns));
         let (least, greatest) = ends_of(runs, columns);
@@ -204,11 +204,19 @@ fn greatest_of<'a>(a: &'a [u8], b: &'a [u8], columns: u32) -> &'a [u8] {
     }
 }
 
-/// Adds at most this many keys of a run to a sample.
-fn take_keys<'a>(sample: &mut Vec<&'a [u8]>, run: &'a Run, count: usize) -> Result<(), AllocError> {
-    let step = (run.len() / count.max(1)).saturating_add(1);
+/// Adds this many keys of a run to a sample, at even distances, or all that it has. The first place is another in each of so many
+/// runs, so that the keys of all of them are at even distances in the table too, however few each gives.
+fn take_keys<'a>(
+    sample: &mut Vec<&'a [u8]>,
+    run: &'a Run,
+    count: usize,
+    number: usize,
+    runs: usize,
+) -> Result<(), AllocError> {
+    let steps = count.wrapping_mul(runs).max(1);
     for n in 0..count {
-        let at = n.wrapping_mul(step);
+        let step = n.wrapping_mul(runs).wrapping_add(number);
+        let at = step.wrapping_mul(run.len()) / steps;
         if at < run.len() {
             sample.push(run.key(at))?;
         }
