@@ -46,7 +46,8 @@ table of the rows of all sources, if it reads the states of all of them.
   --null TEXTS     one to eight texts between commas, as in NA,NULL,-: a field
                    that is one of them counts as empty
   --trim           fields without the white space at their ends
-  --workers N      0 to 64 threads besides the first; 2 if it is not given
+  --workers N      at most N threads besides the first, and at most one for each
+                   processor: 0 to 64; 2 if it is not given
   --order COLUMN   the rows by an item or a column of --group, as in sum:qty or
                    sum:qty:desc; year:numeric orders keys that are integers
   --limit N        at most the first N rows of the table

@@ -3,10 +3,10 @@
 //!
 //! The words name a plan; the bytes are read window by window, whole records each. The windows of a batch are shared out to
 //! the participants, and if there are workers the caller's thread fills the next batch meanwhile. Each participant has a map
-//! of the groups of its rows; when these are many, and there are two participants or more, the keys are parted, and from
-//! then on each part has one map (`part_run`). After the last batch the text of all groups is made and written. So nothing is
-//! written before the last byte was read, and only the groups, two batches, the rows of one window a participant, and with
-//! parts some rows that wait for theirs, are in memory.
+//! of the groups of its rows; when these are many the keys are parted, and from then on each part has one map (`part_run`).
+//! After the last batch the text of all groups is made and written. So nothing is written before the last byte was read, and
+//! only the groups, two batches, the rows of one window a participant, and with parts some rows that wait for theirs, are in
+//! memory.
 //!
 //! The first fault ends it: the words, a read that failed, no header, a column that it lacks, a record that is too long, a
 //! refused row, and the writing, as they come on the way through the input.
@@ -47,9 +47,9 @@ pub const WINDOW_BYTES: usize = 4_194_304;
 /// by batch to `progress` ([`Untold`] if nobody asks), and that it has ended before anything is written.
 ///
 /// Time is linear in the input, but for the look-up of each row's group and the order of the groups. Memory is two
-/// batches of windows, for each participant the records of one window, and the groups and the text: few groups, and those
-/// of one participant, are in a map for each participant; many are in one map for each part of the keys, with the keys and
-/// values of rows that wait to be added, as many bytes as four batches have or 32 for each group.
+/// batches of windows, for each participant the records of one window, and the groups and the text: few groups are
+/// in a map for each participant; many are in one map for each part of the keys, with the keys and values of rows that wait to
+/// be added, as many bytes as four batches have or 32 for each group.
 pub fn stream_table<R: Threads + Wait + Sync, S: Source, O: Sink, E: Sink, P: Progress>(
     rt: &R,
     alloc: Global,

@@ -21,7 +21,7 @@ use plan_spec::Plan;
 use split_run::table_text;
 use std::alloc::{AllocError, Global};
 use std::thread::Threads;
-use stream_groups::{Gathered, ReadGroups, Stop, all_groups, may_part};
+use stream_groups::{Gathered, ReadGroups, Stop, all_groups, may_part, useful_workers};
 
 /// The fewest groups in all maps for which it pays to part their keys.
 const FEWEST_GROUPS: usize = 16_384;
@@ -103,7 +103,7 @@ fn parts_text<R: Threads + Sync>(
     requires rows { AreGathered bound.now (kept.Parted parts) }
     ensures { IfOk result (λ pieces. AnswersGathered plan.now.plan bound.now (kept.Parted parts) pieces.items) }
 {
-    let threads = plan.workers() as usize + 1;
+    let threads = useful_workers(rt, plan.workers()) as usize + 1;
     let maps = parts.finish(rt, alloc)?;
     table_of_parts(rt, alloc, plan, bound, maps, threads)
 }

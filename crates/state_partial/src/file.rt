@@ -27,7 +27,7 @@ use state_save::{long_is_known, saved_is_read};
 use state_writer::WriteError;
 use std::alloc::{AllocError, Global};
 use std::thread::Threads;
-use stream_groups::Stop;
+use stream_groups::{Stop, useful_workers};
 
 /// The file of a part, which lies at this place of its source.
 pub(crate) fn file_of<R: Threads + Sync>(
@@ -78,7 +78,7 @@ pub(crate) fn file_of<R: Threads + Sync>(
     saved_is_read();
     long_is_known();
     let mut file = Vec::new(alloc);
-    let threads = asked.workers as usize + 1;
+    let threads = useful_workers(rt, asked.workers) as usize + 1;
     match push_all(rt, alloc, &mut file, &head, map, &plan.shape(), threads) {
         Ok(()) => Ok(file),
         Err(WriteError::Memory) => Err(NoPart::Stopped(Stop::Memory)),

@@ -1,13 +1,12 @@
 -- What was found of bytes in which the comma and the separator were exchanged, said of the bytes of the input.
 use Rattle.std.proofs.Common.{◌≡◌, ◌+◌, ◌++◌, ◌∷◌, ◌∙◌, ℕ, List, Option, None, Some, IfSome, map, refl, ap, sym, subst}
-use Rattle.std.specs.Prelude.{option_map, string_bytes}
+use Rattle.std.specs.Prelude.{option_map}
 use Rattle.std.proofs.lemmas.List.{map-append}
 use Rattle.csv.specs.Reading.{strip_bom}
 use Rattle.csv_rows.specs.Readings.{IsSeparator, exchanged, records_as, records_in}
 use Rattle.csv_rows.specs.Records.{record_at}
 use Rattle.csv_rows.proofs.Cleaned.{bytes-kept}
 use Rattle.csv_rows.proofs.Exchanges.{reads-exchanged, twice-all}
-use Rattle.par_model.specs.Named.{NamedPlan}
 use Rattle.par_model.specs.Outcome.{NoColumn, Outcome, Refused}
 use Rattle.par_model.specs.declared.refusal.Refusal.{Refusal}
 use Rattle.plan_spec.specs.Query.{Query}

@@ -6,7 +6,6 @@ use Rattle.std.proofs.lemmas.List.{drop-drop, drop_all, drop_more, get_or-drop, 
 use Rattle.std.proofs.lemmas.List.Elements.{All-drop, All-from_get_or, All-head, All-tail, All-take}
 use Rattle.csv_rows.specs.Cuts.{IsCut}
 use Rattle.csv_rows.specs.Places.{place_after}
-use Rattle.csv_rows.specs.Readings.{records_as}
 use Rattle.csv_rows.specs.Records.{records_of}
 use Rattle.csv_rows.specs.declared.cleaning.Reading.{Reading}
 use Rattle.csv_rows.specs.declared.place.Place.TheVariants as scan

@@ -18,11 +18,11 @@ use std::alloc::{AllocError, Global};
 use std::sync::Wait;
 use std::thread::Threads;
 
-/// Keys are parted when a participant has a group for so many bytes of a batch: 16,384 groups by the program.
-const BYTES_FOR_GROUP: usize = 256;
+/// Keys are parted when a participant has a group for so many bytes of a batch: 4,096 groups by the program.
+const BYTES_FOR_GROUP: usize = 1024;
 
 /// But only if the batch had fewer rows for each new group.
-const FEWEST_ROWS: u64 = 4;
+const FEWEST_ROWS: u64 = 3;
 
 /// The rows that wait are grouped when they have the bytes of so many batches: 16 MiB by the program.
 const MOST_BATCHES: usize = 4;
@@ -138,12 +138,12 @@ fn add_parted<R: Threads + Wait + Sync>(
     }
 }
 
-/// Whether keys of these maps can be parted, and may gain by it: they have columns, and there are two participants or more.
+/// Whether keys of these maps can be parted, which takes columns and a participant.
 pub fn may_part(bound: &BoundPlan, maps: &[GroupMap]) -> bool
     ensures columns { OnTrue result (0 < length bound.now.groups) }
     ensures some { OnTrue result (0 < length maps.now) }
 {
-    maps.len() >= 2 && !bound.group_columns().is_empty()
+    !maps.is_empty() && !bound.group_columns().is_empty()
 }
 
 /// Whether groups are so many that parts pay, after a batch of about this many bytes and of so many rows: before it there

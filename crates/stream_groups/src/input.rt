@@ -22,8 +22,8 @@ use std::alloc::Global;
 use std::sync::Wait;
 use std::thread::Threads;
 
-/// Reads the whole source, in batches of this many bytes or more, with this many workers, and reports how far it has come.
-/// Its records are read as the plan says. The bytes that the source gave are counted, also if there are no groups.
+/// Reads the whole source, in batches of this many bytes or more, with at most this many workers, and reports how far it has
+/// come. Its records are read as the plan says. The bytes that the source gave are counted, also if there are no groups.
 pub fn read_input<R: Threads + Wait + Sync, S: Source, P: Progress>(
     rt: &R,
     alloc: Global,

@@ -2,9 +2,8 @@
 //!
 //! The bytes are read window by window, whole records each. The windows of a batch are shared out to the participants, and
 //! if there are workers the caller's thread fills the next batch meanwhile. Each participant has a map of the groups of its
-//! rows; when these are many, and there are two participants or more, the keys are parted, and from then on each part has one
-//! map (`part_run`). Only the groups, two batches, the rows of one window a participant, and with parts some rows that wait
-//! for theirs, are in memory.
+//! rows; when these are many the keys are parted, and from then on each part has one map (`part_run`). Only the groups, two
+//! batches, the rows of one window a participant, and with parts some rows that wait for theirs, are in memory.
 //!
 //! The first fault ends it: a read that failed, no header, a column that it lacks or has twice, a record that is too long,
 //! and a refused row, as they come on the way through the input. A [`Stop`] says which, and has a status and a line: a row
@@ -33,6 +32,7 @@ mod separated;
 mod stop;
 mod taken;
 mod twice;
+mod useful;
 mod words;
 
 pub use filling::{First, first_window, more_feeds, stop_of_window};
@@ -46,4 +46,5 @@ pub use rows::bind;
 pub use separated::Separated;
 pub use stop::{LONG_RECORD, RefusedRow, Stop};
 pub use taken::Taken;
+pub use useful::useful_workers;
 pub use words::read_words;

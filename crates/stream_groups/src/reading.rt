@@ -22,6 +22,7 @@ use crate::progress::{Progress, SoFar};
 use crate::rows::bind;
 use crate::stop::Stop;
 use crate::taken::Taken;
+use crate::useful::useful_workers;
 use csv_rows::RowStore;
 use par_io::Source;
 use par_model::BoundPlan;
@@ -54,8 +55,9 @@ pub(crate) struct Stream {
 /// The most bytes of the first window, unless a record is longer: so a wrong name is answered early, even if the source is slow.
 const FIRST_BYTES: usize = 4096;
 
-/// Reads the whole source, in batches of this many bytes or more, with this many workers, and reports how far it has come. The bytes that
-/// the source gave are counted, also if there are no groups. In its bytes the comma and the plan's separator are exchanged.
+/// Reads the whole source, in batches of this many bytes or more, with at most this many workers, and no more than there are
+/// processors ([`useful_workers`]), and reports how far it has come. The bytes that the source gave are counted, also if
+/// there are no groups. In its bytes the comma and the plan's separator are exchanged.
 pub fn read_groups<R: Threads + Wait + Sync, S: Source, P: Progress>(
     rt: &R,
     alloc: Global,
@@ -76,6 +78,7 @@ pub fn read_groups<R: Threads + Wait + Sync, S: Source, P: Progress>(
     ensures end { OnOk result (IsAtEnd (S.left source.new)) }
     ensures taken { Takes (S.left source.old) (S.left source.new) (S.faults source.old) (S.faults source.new) taken.old taken.new }
 {
+    let workers = useful_workers(rt, workers);
     let reading = plan.reading();
     let first = first_window(rt, alloc, reading, source, size.min(FIRST_BYTES), taken)?;
     let bound = bind(alloc, plan, &first.header)?;

@@ -2,7 +2,6 @@ use Rattle.std.proofs.Common.{◌≡◌, ◌<◌, ◌≤◌, ◌++◌, ◌∙◌
 use Rattle.std.specs.Prelude.{unwrap_or}
 use Rattle.csv_rows.specs.Readings.{records_as}
 use Rattle.csv_rows.specs.Records.{records_of}
-use Rattle.csv_rows.specs.declared.cleaning.Reading.{Reading}
 use Rattle.csv_rows.proofs.Cleaned.{as-length}
 use Rattle.row_windows.specs.Seams.{IsCutAt}
 use Rattle.stream_groups.proofs.Streams.{front_one, front_records, parted_cut, parted_lined, parted_lines}

@@ -1,5 +1,4 @@
-use Rattle.std.proofs.Common.{[], ◌++◌, ◌∷◌, ◌∙◌, ℕ, List, Option, ap, arith, refl, rules}
-use Rattle.csv_rows.specs.Readings.{records_as}
+use Rattle.std.proofs.Common.{[], ◌++◌, ◌∷◌, ◌∙◌, ℕ, List, Option, arith, refl, rules}
 use Rattle.csv_rows.specs.Records.{record_at}
 use Rattle.row_blocks.specs.Blocks.{Table}
 use Rattle.split_run.specs.Pieces.{rows_of}
