@@ -32,6 +32,7 @@ use dshash_parts::ClosedTable;
 use par_model::BoundPlan;
 use parallel_ctx::{Context, Finished};
 use partial_agg::{GroupMap, Groups};
+use paying::workers_pay;
 use region_words::Region;
 use roles::{Leader, Team};
 use row_blocks::count_blocks;
@@ -43,6 +44,7 @@ use worker_run::{Gate, WorkerEnd};
 
 mod leading;
 mod messages;
+mod paying;
 mod roles;
 mod sharing;
 mod verdicts;
@@ -96,7 +98,8 @@ fn add_table(
 /// many pages, as long as these are 16 or more; else the workers send their groups to the leader. Of several refused
 /// rows any may be named, unless there are no workers. A refused row that the leader met or read goes before a worker's
 /// lack of memory; on either, and if it has no memory itself, the leader leaves its queues at once, which stops the
-/// workers. Fewer workers than asked for may start, also none.
+/// workers. Fewer workers than asked for may start, also none; without a table none is started if groups have few rows each,
+/// since the leader looks up each group that a worker sends.
 ///
 /// The time of the rows is shared out by blocks of 256; that of taking the groups off the queues, and of draining the
 /// table, is the leader's. Memory is 82 KB for each worker, the groups, the table's area, and the groups of each
@@ -123,7 +126,13 @@ pub fn gather<G: Gate + Sync, R: Threads + Wait + Sync>(
     else {
         return Err(GatherAnswer::Memory);
     };
-    let team = Team { alloc, rows, gate };
+    let pays = workers_pay(alloc, rows, plan, workers);
+    let team = Team {
+        alloc,
+        rows,
+        gate,
+        pays,
+    };
     let mut leader = Leader {
         alloc,
         rows,

@@ -20,6 +20,8 @@ pub(crate) struct Team<'a, G: Gate + Sync> {
     pub(crate) rows: &'a RowStore,
     /// What each worker passes before each of its blocks.
     pub(crate) gate: &'a G,
+    /// Whether workers pay.
+    pub(crate) pays: bool,
 }
 
 impl<'a, G: Gate + Sync> Drop for Team<'a, G> {
@@ -28,6 +30,7 @@ impl<'a, G: Gate + Sync> Drop for Team<'a, G> {
             alloc: _,
             rows: _,
             gate: _,
+            pays: _,
         } = self;
     }
 }
@@ -43,6 +46,10 @@ impl<'a, G: Gate + Sync> Worker for Team<'a, G> {
     ghost asks = { λ team plan blocks. HasColumns plan (header_width team.rows.now) × AreBlocks team.rows.now blocks };
 
     ghost did = { λ team plan blocks account end. DidWork plan team.rows.now blocks account end };
+
+    fn pays(&self) -> bool {
+        self.pays
+    }
 
     fn work<R: Wait + Sync>(
         &self,

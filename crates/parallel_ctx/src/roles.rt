@@ -29,6 +29,11 @@ pub trait Worker: Sync {
     /// What the call did by a plan over this many blocks, and its end.
     ghost did: { Self → Plan → ℕ → Account → Self.End → Type 0 };
 
+    /// Whether it pays to start workers. If it doesn't, none is, as if each start were refused.
+    fn pays(&self) -> bool {
+        true
+    }
+
     /// Works with unused tokens, which stay in their places. It may leave its ends attached.
     fn work<R: Wait + Sync>(
         &self,

@@ -103,8 +103,8 @@ fn work_or_return<W: Worker, R: Wait + Sync>(
     }
 }
 
-/// Starts a worker in its own thread. A refused start gives the job back: its flag is set, and the job is called here,
-/// which then only gives the tokens back.
+/// Starts a worker in its own thread, if that pays. A refused start gives the job back: its flag is set, and the job is
+/// called here, which then only gives the tokens back. Nothing else is done if a start does not pay.
 fn launch<'s, E, W: Worker, R: Threads + Wait + Sync>(
     scope: &Scope<'s, E>,
     rt: &'s R,
@@ -127,6 +127,10 @@ where
         requires { CanWork (W.asks worker.now) shared.now hand }
         ensures { Returns (W.did worker.entry.now) shared.entry.now hand result }
     { work_or_return(rt, worker, shared, refused, hand) };
+    if !worker.pays() {
+        refused.store(true, Ordering::SeqCst);
+        return Placed::Here(job());
+    }
     match scope.spawn_with(promise, job) {
         Ok(child) => Placed::Running(child),
         Err(back) => {
