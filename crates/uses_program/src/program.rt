@@ -9,10 +9,9 @@ mod workers;
 use par_gather::{Gate, OpenGate, Ran, aggregate_alone, pargather};
 use par_io::{MemSink, MemSource};
 use par_stream::{Separated, Untold, WINDOW_BYTES, stream_table};
-use std::alloc::{AllocError, Global};
+use std::alloc::Global;
 use std::process::Abort;
 use std::sync::Wait;
-use std::test::Fail;
 use std::thread::Threads;
 
 /// Texts one after the other, each this many times.
@@ -97,14 +96,20 @@ impl<'a> Wanted<'a> {
 fn same_front(line: &[u8]) -> Option<&[u8]> {
     for front in [b": no column ".as_slice(), b": row "] {
         if line.starts_with(front) {
-            let digits = line[front.len()..]
-                .iter()
-                .take_while(|byte| byte.is_ascii_digit())
-                .count();
-            return Some(&line[..front.len() + digits]);
+            return Some(up_to_digits(line, front.len()));
         }
     }
     None
+}
+
+/// A line up to the digits that stand at a place, and these.
+fn up_to_digits(line: &[u8], from: usize) -> &[u8] {
+    for at in from..line.len() {
+        if !line[at].is_ascii_digit() {
+            return &line[..at];
+        }
+    }
+    line
 }
 
 /// A source that gives 3 bytes a call and sinks that take 5.
@@ -117,25 +122,27 @@ struct Streams {
 
 impl Streams {
     /// Streams over these bytes, of which these calls fail.
-    fn over(alloc: Global, input: Vec<u8>, failing: Failing<'_>) -> Result<Streams, AllocError> {
-        Ok(Streams {
-            source: Separated::new(MemSource::new(
-                input,
-                3,
-                Vec::from_slice(alloc, failing.reads)?,
-            )),
-            out: sink(alloc, 100_000, failing.writes)?,
-            err: sink(alloc, 1_000, failing.lines)?,
-        })
+    fn over<R: Abort>(rt: &R, alloc: Global, input: Vec<u8>, failing: Failing<'_>) -> Streams {
+        let reads = copy_of(rt, alloc, failing.reads);
+        Streams {
+            source: Separated::new(MemSource::new(input, 3, reads)),
+            out: sink(rt, alloc, 100_000, failing.writes),
+            err: sink(rt, alloc, 1_000, failing.lines),
+        }
     }
 }
 
-fn sink(alloc: Global, room: usize, failing: &[u64]) -> Result<MemSink, AllocError> {
-    MemSink::new(alloc, 5, room, Vec::from_slice(alloc, failing)?)
+fn sink<R: Abort>(rt: &R, alloc: Global, room: usize, failing: &[u64]) -> MemSink {
+    MemSink::new(alloc, 5, room, copy_of(rt, alloc, failing)).expect(rt, "memory")
+}
+
+/// A list of these numbers or bytes.
+fn copy_of<T: Copy, R: Abort>(rt: &R, alloc: Global, all: &[T]) -> Vec<T> {
+    Vec::from_slice(alloc, all).expect(rt, "memory")
 }
 
 /// What is said of a run, in numbers.
-#[derive(Clone, Copy, PartialEq)]
+#[derive(Clone, Copy)]
 enum Said {
     Nothing,
     Gathered { launched: u32, groups: usize },
@@ -192,39 +199,45 @@ impl Answered {
 }
 
 /// The bytes of some pieces.
-fn bytes_of(alloc: Global, pieces: Pieces<'_>) -> Result<Vec<u8>, AllocError> {
+fn bytes_of<R: Abort>(rt: &R, alloc: Global, pieces: Pieces<'_>) -> Vec<u8> {
     let mut bytes = Vec::new(alloc);
     for (text, times) in pieces {
-        for _ in 0..*times {
-            bytes.extend_from_slice(text.as_bytes())?;
-        }
+        repeat(rt, &mut bytes, text.as_bytes(), *times);
     }
-    Ok(bytes)
+    bytes
+}
+
+/// Adds a text this many times.
+fn repeat<R: Abort>(rt: &R, bytes: &mut Vec<u8>, text: &[u8], times: u32) {
+    for _ in 0..times {
+        bytes.extend_from_slice(text).expect(rt, "memory");
+    }
 }
 
 /// The words of a text, which are separated by spaces. No text is no words.
-fn words_of(alloc: Global, text: &str) -> Result<Vec<String>, AllocError> {
+fn words_of<R: Abort>(rt: &R, alloc: Global, text: &str) -> Vec<String> {
     let mut words = Vec::new(alloc);
     if text.is_empty() {
-        return Ok(words);
+        return words;
     }
     for word in text.split(' ') {
-        words.push(String::from_str(alloc, word)?)?;
+        let word = String::from_str(alloc, word).expect(rt, "memory");
+        words.push(word).expect(rt, "memory");
     }
-    Ok(words)
+    words
 }
 
 /// What `pargather` answers. Only here is what the run brings home looked at.
-fn ask<G: Gate + Sync, R: Threads + Wait + Sync>(
+fn ask<G: Gate + Sync, R: Abort + Threads + Wait + Sync>(
     rt: &R,
     alloc: Global,
     words: &str,
     input: Vec<u8>,
     failing: Failing<'_>,
     gate: &G,
-) -> Result<Answered, AllocError> {
-    let mut streams = Streams::over(alloc, input, failing)?;
-    let words = words_of(alloc, words)?;
+) -> Answered {
+    let mut streams = Streams::over(rt, alloc, input, failing);
+    let words = words_of(rt, alloc, words);
     let mut ran = None;
     let status = pargather(
         rt,
@@ -237,22 +250,23 @@ fn ask<G: Gate + Sync, R: Threads + Wait + Sync>(
         &mut ran,
     );
     let said = Said::of(&ran);
-    Ok(Answered {
+    Answered {
         status,
         streams,
         said,
-    })
+    }
 }
 
 /// What `aggregate_alone` answers.
-fn ask_alone(
+fn ask_alone<R: Abort>(
+    rt: &R,
     alloc: Global,
     words: &str,
     input: Vec<u8>,
     failing: Failing<'_>,
-) -> Result<Answered, AllocError> {
-    let mut streams = Streams::over(alloc, input, failing)?;
-    let words = words_of(alloc, words)?;
+) -> Answered {
+    let mut streams = Streams::over(rt, alloc, input, failing);
+    let words = words_of(rt, alloc, words);
     let status = aggregate_alone(
         alloc,
         words.as_slice(),
@@ -260,23 +274,23 @@ fn ask_alone(
         &mut streams.out,
         &mut streams.err,
     );
-    Ok(Answered {
+    Answered {
         status,
         streams,
         said: Said::Nothing,
-    })
+    }
 }
 
 /// What `stream_table` answers.
-fn ask_stream<R: Threads + Wait + Sync>(
+fn ask_stream<R: Abort + Threads + Wait + Sync>(
     rt: &R,
     alloc: Global,
     words: &str,
     input: Vec<u8>,
     failing: Failing<'_>,
-) -> Result<Answered, AllocError> {
-    let mut streams = Streams::over(alloc, input, failing)?;
-    let words = words_of(alloc, words)?;
+) -> Answered {
+    let mut streams = Streams::over(rt, alloc, input, failing);
+    let words = words_of(rt, alloc, words);
     let status = stream_table(
         rt,
         alloc,
@@ -287,22 +301,16 @@ fn ask_stream<R: Threads + Wait + Sync>(
         WINDOW_BYTES,
         &mut Untold,
     );
-    Ok(Answered {
+    Answered {
         status,
         streams,
         said: Said::Nothing,
-    })
+    }
 }
 
 /// Stops the test unless an answer is this.
 fn check<R: Abort>(rt: &R, words: &str, answer: &Answered, wanted: Wanted<'_>) {
-    assert!(rt;
-        answer.is(wanted),
-        "{words}: {}, {:?}, {:?}",
-        answer.status,
-        answer.out(),
-        answer.err()
-    );
+    assert!(rt; answer.is(wanted), "{words}");
 }
 
 /// A call that answers the words of a plan.
@@ -322,18 +330,18 @@ impl Call {
         }
     }
 
-    fn ask<R: Threads + Wait + Sync>(
+    fn ask<R: Abort + Threads + Wait + Sync>(
         self,
         rt: &R,
         alloc: Global,
         words: &str,
         input: &[u8],
         failing: Failing<'_>,
-    ) -> Result<Answered, AllocError> {
-        let input = Vec::from_slice(alloc, input)?;
+    ) -> Answered {
+        let input = copy_of(rt, alloc, input);
         match self {
             Call::WithWorkers => ask(rt, alloc, words, input, failing, &OpenGate),
-            Call::Alone => ask_alone(alloc, words, input, failing),
+            Call::Alone => ask_alone(rt, alloc, words, input, failing),
             Call::InWindows => ask_stream(rt, alloc, words, input, failing),
         }
     }
@@ -347,10 +355,9 @@ impl Call {
         input: &[u8],
         failing: Failing<'_>,
         wanted: Wanted<'_>,
-    ) -> Result<(), AllocError> {
-        let answer = self.ask(rt, alloc, words, input, failing)?;
+    ) {
+        let answer = self.ask(rt, alloc, words, input, failing);
         check(rt, words, &answer, wanted);
-        Ok(())
     }
 
     /// The answer of the call that stands for one of `pargather`.
@@ -370,11 +377,10 @@ fn check_each<R: Abort + Threads + Wait + Sync>(
     input: &[u8],
     failing: Failing<'_>,
     wanted: Wanted<'_>,
-) -> Result<(), Fail> {
+) {
     for call in [Call::WithWorkers, Call::Alone, Call::InWindows] {
         if call.takes(words) {
-            call.check(rt, alloc, words, input, failing, call.wanted(wanted))?;
+            call.check(rt, alloc, words, input, failing, call.wanted(wanted));
         }
     }
-    Ok(())
 }

@@ -23,7 +23,7 @@ use std::sync::Wait;
 mod rounds;
 
 /// How many leases a round visited, and how many of them were due and are gone.
-#[derive(Clone, Copy, Debug, PartialEq, Eq)]
+#[derive(Clone, Copy)]
 pub struct Round {
     pub visited: u64,
     pub gone: u64,

@@ -6,7 +6,7 @@ ghost use Rattle.uses_table.specs.Leases.{ticked};
 use dshash_core::CellObject;
 
 /// A value, and how many rounds it outlasts. If there is none left, it is due: the next round takes it out.
-#[derive(Clone, Copy, Debug, PartialEq, Eq)]
+#[derive(Clone, Copy)]
 pub struct Lease {
     pub value: u64,
     pub rounds: u64,

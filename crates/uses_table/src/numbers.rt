@@ -6,7 +6,7 @@ ghost use Rattle.dshash_numbers.specs.Maps.{ComesFrom, IsNumberTable};
 
 use crate::parts;
 use dsa_area::{Area, AreaPass, NoSpace};
-use dshash_numbers::NumberTable;
+use dshash_numbers::{NumberTable, Total};
 use region_words::Region;
 use std::alloc::{AllocError, Global};
 use std::sync::Wait;
@@ -97,31 +97,61 @@ fn taken_twice<R: Wait>(
     (got, first, table.take(rt, r, area, apass, &key))
 }
 
-#[test]
-fn a_hundred_numbers(rt: HostRuntime) -> Result<(), Fail> {
-    let (region, area, mut apass) = area_for(rt.alloc(), 512)?;
-    let Ok(mut table) = NumberTable::new(&rt, rt.alloc(), &region, &area, &mut apass) else {
+/// What is answered in a new table: of a number before it is put, of this many puts and of the same again, of the number
+/// then, and what the table's numbers are and come to.
+#[derive(Drop)]
+struct Answered {
+    before: (Option<u64>, Option<u64>, Option<u64>),
+    first: (u64, u64),
+    again: (u64, u64),
+    taken: (Option<u64>, Option<u64>, Option<u64>),
+    total: Option<Total>,
+}
+
+/// What a table answers in an area of this many pages.
+fn answered_in<R: Wait>(rt: &R, alloc: Global, pages: u32, count: u64) -> Result<Answered, Fail>
+    requires few { pages ≤ 65536 }
+{
+    let (region, area, mut apass) = area_for(alloc, pages)?;
+    let Ok(mut table) = NumberTable::new(rt, alloc, &region, &area, &mut apass) else {
         return Err(Fail::new("no table"));
     };
-    let before = taken_twice(&rt, &mut table, &region, &area, &mut apass, 7);
-    assert!(rt; before == (None, None, None));
-    let new = put_all(&rt, &mut table, &region, &area, &mut apass, 100);
-    let again = put_all(&rt, &mut table, &region, &area, &mut apass, 100);
-    assert_eq!(rt; (new, again), ((100, 0), (0, 0)));
-    let taken = taken_twice(&rt, &mut table, &region, &area, &mut apass, 7);
-    assert!(rt; taken == (Some(7), Some(7), None));
-    let total = table.total(&rt, rt.alloc(), &region).expect(&rt, "memory");
-    assert_eq!(rt; (total.count, total.sum), (99, 4_943));
+    let before = taken_twice(rt, &mut table, &region, &area, &mut apass, 7);
+    let first = put_all(rt, &mut table, &region, &area, &mut apass, count);
+    let again = put_all(rt, &mut table, &region, &area, &mut apass, count);
+    let taken = taken_twice(rt, &mut table, &region, &area, &mut apass, 7);
+    let total = table.total(rt, alloc, &region).ok();
+    Ok(Answered {
+        before,
+        first,
+        again,
+        taken,
+        total,
+    })
+}
+
+#[test]
+fn a_hundred_numbers(rt: HostRuntime) -> Result<(), Fail> {
+    let answered = answered_in(&rt, rt.alloc(), 512, 100)?;
+    assert!(rt; answered.before == (None, None, None));
+    assert!(rt; answered.first == (100, 0) && answered.again == (0, 0));
+    assert!(rt; answered.taken == (Some(7), Some(7), None));
+    assert!(rt;
+        matches!(
+            answered.total,
+            Some(Total {
+                count: 99,
+                sum: 4_943
+            })
+        )
+    );
     Ok(())
 }
 
 #[test]
 fn an_area_without_room(rt: HostRuntime) -> Result<(), Fail> {
-    let (region, area, mut apass) = area_for(rt.alloc(), 16)?;
-    let Ok(mut table) = NumberTable::new(&rt, rt.alloc(), &region, &area, &mut apass) else {
-        return Err(Fail::new("no table"));
-    };
-    let put = put_all(&rt, &mut table, &region, &area, &mut apass, 3);
-    assert_eq!(rt; put, (0, 3));
+    let answered = answered_in(&rt, rt.alloc(), 16, 3)?;
+    assert!(rt; answered.first == (0, 3));
+    assert!(rt; matches!(answered.total, Some(Total { count: 0, sum: 0 })));
     Ok(())
 }

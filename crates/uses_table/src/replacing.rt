@@ -1,16 +1,15 @@
 //! A text that is replaced if it is still the expected one: a look and a change in one turn of the name's partition, so
 //! that no other caller's call comes between.
 
-ghost use Rattle.std.specs.Prelude.{◌≡◌, ◌≢◌, Some, IsSome, true, false};
-ghost use Rattle.lock_book.specs.Shown.{calls_in, number_in, number_of, place_in, seen_of};
+ghost use Rattle.std.specs.Prelude.{◌≡◌, ◌≢◌, ◌↔◌, [], ◌∷◌, ◌++◌, Some, IsSome, true, false, cond};
+ghost use Rattle.lock_book.specs.Shown.{calls_in, mine_of, number_in, number_of, place_in, seen_of};
 ghost use Rattle.dshash_core.specs.Key.{hash_of};
 ghost use Rattle.dshash_core.specs.Cells.{partition_of};
-ghost use Rattle.dshash_parts.specs.Promises.{IsLastCall};
+ghost use Rattle.dshash_parts.specs.Replays.{calls_of_key};
 ghost use Rattle.dshash_parts.specs.Tables.{Belongs, IsTable, key_words_of};
 ghost use Rattle.dshash_parts.specs.Turns.{IsTurn, under_in};
 ghost use Rattle.uses_table.specs.Texts.{after, may, owner_of};
-ghost use Rattle.uses_table.specs.Cached.{under};
-ghost use Rattle.uses_table.specs.declared.text.TextCall.TheVariants.{Set};
+ghost use Rattle.uses_table.specs.Cached.{AreSwap, Swapped, under};
 
 use crate::text::{TEXT_WORDS, Text, TextCall};
 use dshash_core::{CoreOut, hash_key, partition_of_hash};
@@ -37,7 +36,7 @@ fn ask_in(
     ensures same { (place_in turn.new ≡ place_in turn.old) × (number_in turn.new ≡ number_in turn.old) }
     ensures before { result ≡ under_in turn.old name.now }
     ensures after { under_in turn.new name.now ≡ after result call }
-    ensures last { IsLastCall (number_in turn.old) name.now call result (calls_in turn.new) }
+    ensures made { (e : _) × (calls_in turn.new ≡ calls_in turn.old ++ e ∷ []) × (calls_of_key name.now (e ∷ []) ≡ (call, result) ∷ []) }
 {
     match cache.call_in(r, turn, name, &call, None) {
         CoreOut::Done { reply, .. } => reply,
@@ -61,8 +60,9 @@ fn swap_in(
     requires owner { owner_of name.now ≡ number_in turn.old }
     ensures turn { (p : _) → IsTurn cache.now p turn.old → IsTurn cache.now p turn.new }
     ensures same { (place_in turn.new ≡ place_in turn.old) × (number_in turn.new ≡ number_in turn.old) }
-    ensures replaced { result ≡ true → (under_in turn.new name.now ≡ Some text) × IsLastCall (number_in turn.old) name.now (Set text) (Some expected.now) (calls_in turn.new) }
-    ensures kept { result ≡ false → under_in turn.new name.now ≢ Some expected.now }
+    ensures told { result ≡ true ↔ (under_in turn.old name.now ≡ Some expected.now) }
+    ensures after { under_in turn.new name.now ≡ cond result (Some text) (under_in turn.old name.now) }
+    ensures swap { (es : _) × (calls_in turn.new ≡ calls_in turn.old ++ es) × AreSwap es name.now (under_in turn.old name.now) text result }
 {
     let found = ask_in(cache, r, turn, name, TextCall::Get);
     if found != Some(*expected) {
@@ -89,8 +89,9 @@ pub fn replace_if<R: Wait>(
     requires owner { owner_of name.now ≡ number_of pass.old }
     ensures own { Belongs cache.now pass.new }
     ensures caller { number_of pass.new ≡ number_of pass.old }
-    ensures replaced { result ≡ true → (under (seen_of pass.new) name.now ≡ Some text) × IsLastCall (number_of pass.old) name.now (Set text) (Some expected.now) (seen_of pass.new (partition_of (hash_of name.now))) }
+    ensures replaced { result ≡ true → under (seen_of pass.new) name.now ≡ Some text }
     ensures kept { result ≡ false → under (seen_of pass.new) name.now ≢ Some expected.now }
+    ensures swapped { let home = partition_of (hash_of name.now) in Swapped (seen_of pass.new home) (mine_of pass.old home) (mine_of pass.new home) name.now expected.now text result }
 {
     let partition = partition_of_hash(hash_key(name));
     let mut turn = cache.turn(rt, pass, partition);

@@ -44,6 +44,6 @@ fn words_of_a_state(rt: HostRuntime) -> Result<(), Fail> {
     assert!(rt; words[6..36] == [0; 30]);
     assert!(rt; words[36..] == [1, u64::MAX, u64::MAX >> 1, 5, u64::MAX >> 1]);
     assert!(rt; AggObject::decode(&words) == two_rows());
-    assert_eq!(rt; item_bytes(32, STATE_WORDS as u32), 600);
+    assert!(rt; item_bytes(32, STATE_WORDS as u32) == 600);
     Ok(())
 }

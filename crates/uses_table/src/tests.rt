@@ -37,23 +37,41 @@ fn keeps_all<R: Wait>(
     good
 }
 
+/// Whether one of the caller's names has this text, which is replaced if it is expected and no other, and is forgotten then.
+fn is_replaced<R: Wait>(
+    rt: &R,
+    cache: &Dshash<Text>,
+    r: &Region,
+    area: &Area,
+    pass: &mut DsPass<Text>,
+    apass: &mut AreaPass,
+    text: Text,
+    other: Text,
+) -> bool
+    requires home { IsAtHome r.now area.now cache.now 32 pass.old apass.old }
+    ensures home { IsAtHome r.now area.now cache.now 32 pass.new apass.new }
+{
+    let name = own_name(pass.number(), 7);
+    let first = replace_if(rt, cache, r, pass, &name, &text, other);
+    let second = replace_if(rt, cache, r, pass, &name, &text, text);
+    let gone = forget(rt, cache, r, area, pass, apass, &name);
+    first && !second && gone == Some(other) && recall(rt, cache, r, pass, &name).is_none()
+}
+
 #[test]
 fn a_cache_keeps_texts(rt: HostRuntime) -> Result<(), Fail> {
-    let (region, area, cache, mut pass, mut apass) = table_for_one(&rt, rt.alloc(), 512, 32)?;
-    let good = keeps_all(&rt, &cache, &region, &area, &mut pass, &mut apass, 400);
-    assert_eq!(rt; good, 400);
-    let entries = list_all(&rt, rt.alloc(), &cache, &region, &mut pass).expect(&rt, "memory");
-    assert_eq!(rt; entries.len(), 400);
-    assert_eq!(rt; count_all(&rt, &cache, &region, &mut pass), 400);
-    let name = own_name(pass.number(), 7);
     let (Some(text), Some(other)) = (Text::of(b"a text"), Text::of(b"another text")) else {
         return Err(Fail::new("no text"));
     };
-    assert!(rt; replace_if(&rt, &cache, &region, &mut pass, &name, &text, other));
-    assert!(rt; !replace_if(&rt, &cache, &region, &mut pass, &name, &text, text));
-    let gone = forget(&rt, &cache, &region, &area, &mut pass, &mut apass, &name);
-    assert!(rt; gone == Some(other));
-    let again = recall(&rt, &cache, &region, &mut pass, &name);
-    assert!(rt; again.is_none());
+    let (region, area, cache, mut pass, mut apass) = table_for_one(&rt, rt.alloc(), 512, 0, 32)?;
+    let good = keeps_all(&rt, &cache, &region, &area, &mut pass, &mut apass, 400);
+    assert!(rt; good == 400);
+    let entries = list_all(&rt, rt.alloc(), &cache, &region, &mut pass).expect(&rt, "memory");
+    assert!(rt; entries.len() == 400);
+    assert!(rt; count_all(&rt, &cache, &region, &mut pass) == 400);
+    let is = is_replaced(
+        &rt, &cache, &region, &area, &mut pass, &mut apass, text, other,
+    );
+    assert!(rt; is);
     Ok(())
 }

@@ -22,9 +22,10 @@ impl Text {
         ensures long { IsNone result ↔ (248 < length bytes.now) }
         ensures words { IfSome result (λ text. words_of text ≡ packed_key bytes.now) }
     {
-        Some(Text {
-            words: pack_key(bytes)?,
-        })
+        match pack_key(bytes) {
+            Some(words) => Some(Text { words }),
+            None => None,
+        }
     }
 }
 

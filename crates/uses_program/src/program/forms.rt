@@ -5,10 +5,9 @@ use super::{
     Answered, Call, Failing, LETTERS, NO_FAULTS, Pieces, Said, USAGE, Wanted, ask, bytes_of, check,
 };
 use par_gather::OpenGate;
-use std::alloc::{AllocError, Global};
+use std::alloc::Global;
 use std::process::Abort;
 use std::sync::Wait;
-use std::test::Fail;
 use std::thread::Threads;
 
 /// Words, the input, the calls that fail, and what is answered: the status, and what the two sinks were given.
@@ -179,24 +178,22 @@ const ROWS: &[Row] = &[
 ];
 
 #[test]
-fn answers_worked_rows(rt: HostRuntime) -> Result<(), Fail> {
+fn answers_worked_rows(rt: HostRuntime) {
     for (words, input, failing, status, out, line) in ROWS {
-        let input = bytes_of(rt.alloc(), input)?;
+        let input = bytes_of(&rt, rt.alloc(), input);
         let wanted = Wanted::of(*status, out.as_bytes(), line.as_bytes());
-        Call::WithWorkers.check(&rt, rt.alloc(), words, input.as_slice(), *failing, wanted)?;
+        Call::WithWorkers.check(&rt, rt.alloc(), words, input.as_slice(), *failing, wanted);
     }
-    Ok(())
 }
 
 /// To the call in the caller's thread these words are no plan.
 #[test]
-fn no_plan_alone(rt: HostRuntime) -> Result<(), Fail> {
+fn no_plan_alone(rt: HostRuntime) {
+    let input = bytes_of(&rt, rt.alloc(), TWO);
     for words in ["merge g 2", "join id 2", "gen 1 2"] {
-        let input = bytes_of(rt.alloc(), TWO)?;
         let wanted = Wanted::of(2, b"", USAGE.as_bytes());
-        Call::Alone.check(&rt, rt.alloc(), words, input.as_slice(), NO_FAULTS, wanted)?;
+        Call::Alone.check(&rt, rt.alloc(), words, input.as_slice(), NO_FAULTS, wanted);
     }
-    Ok(())
 }
 
 /// 2,000 rows, of which row i has i modulo 7.
@@ -219,66 +216,72 @@ const SEVENS_IN_ORDER: Pieces<'static> = &[
 ];
 
 /// What the words answer over these pieces.
-fn ask_over<R: Threads + Wait + Sync>(
+fn ask_over<R: Abort + Threads + Wait + Sync>(
     rt: &R,
     alloc: Global,
     words: &str,
     pieces: Pieces<'_>,
-) -> Result<Answered, AllocError> {
-    let input = bytes_of(alloc, pieces)?;
+) -> Answered {
+    let input = bytes_of(rt, alloc, pieces);
     ask(rt, alloc, words, input, NO_FAULTS, &OpenGate)
 }
 
-/// How many of the 2,000 rows were put in order, by what is said of the run, if this was written.
-fn merged_rows<R: Abort + Threads + Wait + Sync>(
+/// Stops the test unless the words put the 2,000 rows in this order, and say so.
+fn check_merged<R: Abort + Threads + Wait + Sync>(
     rt: &R,
     alloc: Global,
     words: &str,
     sorted: &[u8],
-) -> Result<Option<usize>, AllocError> {
-    let answer = ask_over(rt, alloc, words, SEVENS)?;
+) {
+    let answer = ask_over(rt, alloc, words, SEVENS);
     check(rt, words, &answer, Wanted::of(0, sorted, b""));
-    match answer.said {
-        Said::Merged { rows, .. } => Ok(Some(rows)),
-        _ => Ok(None),
-    }
+    assert!(rt;
+        matches!(answer.said, Said::Merged { rows: 2_000, .. }),
+        "{words}"
+    );
 }
 
 #[test]
-fn two_thousand_rows(rt: HostRuntime) -> Result<(), Fail> {
-    let sorted = bytes_of(rt.alloc(), SEVENS_IN_ORDER)?;
+fn two_thousand_rows(rt: HostRuntime) {
+    let sorted = bytes_of(&rt, rt.alloc(), SEVENS_IN_ORDER);
     for words in ["merge n 0", "merge n 1", "merge n 3"] {
-        let rows = merged_rows(&rt, rt.alloc(), words, sorted.as_slice())?;
-        assert!(rt; rows == Some(2_000), "{words}");
+        check_merged(&rt, rt.alloc(), words, sorted.as_slice());
     }
-    Ok(())
 }
 
 /// What is said of a run over two small tables.
-fn said_over<R: Threads + Wait + Sync>(
-    rt: &R,
-    alloc: Global,
-    words: &str,
-) -> Result<Said, AllocError> {
-    Ok(ask_over(rt, alloc, words, TWO)?.said)
+fn said_over<R: Abort + Threads + Wait + Sync>(rt: &R, alloc: Global, words: &str) -> Said {
+    ask_over(rt, alloc, words, TWO).said
 }
 
 /// Of joined records the join is said: a pass of the table's area for each worker and one for the caller.
 #[test]
-fn said_of_a_join(rt: HostRuntime) -> Result<(), Fail> {
-    for (words, passes) in [("join id 0", 1), ("join id 3", 4)] {
-        let said = said_over(&rt, rt.alloc(), words)?;
-        assert!(rt; said == Said::Joined { passes, pairs: 4 }, "{words}");
-    }
-    Ok(())
+fn said_of_a_join(rt: HostRuntime) {
+    let alone = said_over(&rt, rt.alloc(), "join id 0");
+    assert!(rt;
+        matches!(
+            alone,
+            Said::Joined {
+                passes: 1,
+                pairs: 4
+            }
+        )
+    );
+    let with_three = said_over(&rt, rt.alloc(), "join id 3");
+    assert!(rt;
+        matches!(
+            with_three,
+            Said::Joined {
+                passes: 4,
+                pairs: 4
+            }
+        )
+    );
 }
 
 /// Of generated rows their groups are said, which two workers were asked for.
 #[test]
-fn said_of_generated_rows(rt: HostRuntime) -> Result<(), Fail> {
-    match said_over(&rt, rt.alloc(), "gen 7 5000")? {
-        Said::Gathered { launched, groups } => assert!(rt; launched == 2 && groups > 900),
-        _ => return Err(Fail::new("nothing is said of the run")),
-    }
-    Ok(())
+fn said_of_generated_rows(rt: HostRuntime) {
+    let said = said_over(&rt, rt.alloc(), "gen 7 5000");
+    assert!(rt; matches!(said, Said::Gathered { launched: 2, groups } if groups > 900));
 }

@@ -1,21 +1,21 @@
 //! One table, whatever plan the words ask for, however many workers, and in windows too.
 
-use super::{Answered, Call, NO_FAULTS, Wanted, ask_alone, check_each};
+use super::{Answered, Call, NO_FAULTS, Wanted, ask_alone, check_each, copy_of};
 use par_gather::TABLE;
-use std::alloc::{AllocError, Global};
+use std::alloc::Global;
 use std::process::Abort;
 use std::sync::Wait;
-use std::test::Fail;
 use std::thread::Threads;
 
 /// A thousand orders of an item whose name is quoted.
-fn orders(alloc: Global) -> Result<Vec<u8>, AllocError> {
-    let mut text = Vec::from_slice(alloc, b"region,item,cents\n")?;
+fn orders<R: Abort>(rt: &R, alloc: Global) -> Vec<u8> {
+    let mut text = copy_of(rt, alloc, b"region,item,cents\n");
     for cents in 1..=1000u32 {
-        let line = format!(in alloc; "R{},\"box, large\",{}\n", cents % 12, cents)?;
-        text.extend_from_slice(line.as_bytes())?;
+        let line = format!(in alloc; "R{},\"box, large\",{}\n", cents % 12, cents);
+        let line = line.expect(rt, "memory");
+        text.extend_from_slice(line.as_bytes()).expect(rt, "memory");
     }
-    Ok(text)
+    text
 }
 
 const BY_REGION: &str =
@@ -38,29 +38,35 @@ const ORDERS: &[(&str, &str)] = &[
 ];
 
 #[test]
-fn thousand_orders(rt: HostRuntime) -> Result<(), Fail> {
-    let text = orders(rt.alloc())?;
+fn thousand_orders(rt: HostRuntime) {
+    let text = orders(&rt, rt.alloc());
     for (words, out) in ORDERS {
         let wanted = Wanted::of(0, out.as_bytes(), b"");
-        check_each(&rt, rt.alloc(), words, text.as_slice(), NO_FAULTS, wanted)?;
+        check_each(&rt, rt.alloc(), words, text.as_slice(), NO_FAULTS, wanted);
     }
-    Ok(())
 }
 
 /// This many rows, of which three in a row have one key.
-fn keyed(alloc: Global, rows: u32) -> Result<Vec<u8>, AllocError> {
-    let mut text = Vec::from_slice(alloc, b"k,v\n")?;
+fn keyed<R: Abort>(rt: &R, alloc: Global, rows: u32) -> Vec<u8> {
+    let mut text = copy_of(rt, alloc, b"k,v\n");
     for row in 0..rows {
-        let line = format!(in alloc; "key {},{}\n", row / 3, row % 100)?;
-        text.extend_from_slice(line.as_bytes())?;
+        let line = format!(in alloc; "key {},{}\n", row / 3, row % 100);
+        let line = line.expect(rt, "memory");
+        text.extend_from_slice(line.as_bytes()).expect(rt, "memory");
     }
-    Ok(text)
+    text
 }
 
 /// What a plan answers over these rows in the caller's thread alone.
-fn ask_keyed(alloc: Global, text: &[u8]) -> Result<Answered, AllocError> {
-    let input = Vec::from_slice(alloc, text)?;
-    ask_alone(alloc, "--group k --agg count,sum:v,avg:v", input, NO_FAULTS)
+fn ask_keyed<R: Abort>(rt: &R, alloc: Global, text: &[u8]) -> Answered {
+    let input = copy_of(rt, alloc, text);
+    ask_alone(
+        rt,
+        alloc,
+        "--group k --agg count,sum:v,avg:v",
+        input,
+        NO_FAULTS,
+    )
 }
 
 /// Stops the test unless a call writes this table for the same plan, however many workers it has. Its further words
@@ -72,23 +78,23 @@ fn check_keyed<R: Abort + Threads + Wait + Sync>(
     text: &[u8],
     further: &str,
     table: &[u8],
-) -> Result<(), AllocError> {
+) {
     for workers in [0, 1, 3, 16, 64u32] {
         let words = format!(in alloc;
             "--group k --agg count,sum:v,avg:v --workers {workers}{further}"
-        )?;
+        );
+        let words = words.expect(rt, "memory");
         let wanted = Wanted::of(TABLE, table, b"");
-        call.check(rt, alloc, words.as_str(), text, NO_FAULTS, wanted)?;
+        call.check(rt, alloc, words.as_str(), text, NO_FAULTS, wanted);
     }
-    Ok(())
 }
 
 /// With 16 pages, the fewest with which there is a shared table, many groups find no room in it.
 #[test]
-fn the_same_bytes(rt: HostRuntime) -> Result<(), Fail> {
-    let text = keyed(rt.alloc(), 3_000)?;
-    let first = ask_keyed(rt.alloc(), text.as_slice())?;
-    assert_eq!(rt; first.status, TABLE);
+fn the_same_bytes(rt: HostRuntime) {
+    let text = keyed(&rt, rt.alloc(), 3_000);
+    let first = ask_keyed(&rt, rt.alloc(), text.as_slice());
+    assert!(rt; first.status == TABLE);
     for (call, further) in [
         (Call::WithWorkers, ""),
         (Call::WithWorkers, " --plan gather"),
@@ -96,7 +102,6 @@ fn the_same_bytes(rt: HostRuntime) -> Result<(), Fail> {
         (Call::WithWorkers, " --plan hash --area-pages 16"),
         (Call::InWindows, ""),
     ] {
-        check_keyed(&rt, rt.alloc(), call, text.as_slice(), further, first.out())?;
+        check_keyed(&rt, rt.alloc(), call, text.as_slice(), further, first.out());
     }
-    Ok(())
 }

@@ -1,7 +1,6 @@
 //! Worked rows of plans: words and bytes, and what each call answers. The values were computed apart from the program.
 
 use super::{Failing, LETTERS, NO_FAULTS, Pieces, USAGE, Wanted, X_TWICE, bytes_of, check_each};
-use std::test::Fail;
 
 /// Words, the input, and the table that is written.
 type Table = (&'static str, Pieces<'static>, Pieces<'static>);
@@ -386,57 +385,43 @@ const FAULTS: &[Fault] = &[
 ];
 
 #[test]
-fn tables(rt: HostRuntime) -> Result<(), Fail> {
+fn tables(rt: HostRuntime) {
     for (words, input, out) in TABLES {
-        let input = bytes_of(rt.alloc(), input)?;
-        let out = bytes_of(rt.alloc(), out)?;
+        let input = bytes_of(&rt, rt.alloc(), input);
+        let out = bytes_of(&rt, rt.alloc(), out);
         let wanted = Wanted::of(0, out.as_slice(), b"");
-        check_each(&rt, rt.alloc(), words, input.as_slice(), NO_FAULTS, wanted)?;
+        check_each(&rt, rt.alloc(), words, input.as_slice(), NO_FAULTS, wanted);
     }
-    Ok(())
 }
 
 #[test]
-fn refusals(rt: HostRuntime) -> Result<(), Fail> {
+fn refusals(rt: HostRuntime) {
     for (words, input, status, line) in REFUSALS {
-        let input = bytes_of(rt.alloc(), input)?;
+        let input = bytes_of(&rt, rt.alloc(), input);
         let wanted = Wanted::of(*status, b"", line.as_bytes());
-        check_each(&rt, rt.alloc(), words, input.as_slice(), NO_FAULTS, wanted)?;
+        check_each(&rt, rt.alloc(), words, input.as_slice(), NO_FAULTS, wanted);
     }
-    Ok(())
 }
 
 #[test]
-fn faults(rt: HostRuntime) -> Result<(), Fail> {
+fn faults(rt: HostRuntime) {
     for (words, input, failing, status, out, line) in FAULTS {
-        let input = bytes_of(rt.alloc(), input)?;
+        let input = bytes_of(&rt, rt.alloc(), input);
         let wanted = Wanted::of(*status, out.as_bytes(), line.as_bytes());
-        check_each(&rt, rt.alloc(), words, input.as_slice(), *failing, wanted)?;
+        check_each(&rt, rt.alloc(), words, input.as_slice(), *failing, wanted);
     }
-    Ok(())
 }
 
 /// Bytes that are no text, in keys and in a column of integers.
 #[test]
-fn bytes_that_are_no_text(rt: HostRuntime) -> Result<(), Fail> {
-    let rows: [(&[u8], u8, &[u8], &[u8]); 2] = [
-        (
-            b"g,v\n\xFF,1\n\xC3,2\n\xFF,3\n\xC3\xA9,4\n",
-            0,
-            b"g,sum(v)\n\xC3,2\n\xC3\xA9,4\n\xFF,4\n",
-            b"",
-        ),
-        (
-            b"g,v\n\xFF,1\na,1\xFF\n",
-            1,
-            b"",
-            b"pargather: row 2: column v is not an integer\n",
-        ),
-    ];
-    for (input, status, out, line) in rows {
-        let wanted = Wanted::of(status, out, line);
-        let words = "--group g --agg sum:v";
-        check_each(&rt, rt.alloc(), words, input, NO_FAULTS, wanted)?;
-    }
-    Ok(())
+fn bytes_that_are_no_text(rt: HostRuntime) {
+    let words = "--group g --agg sum:v";
+    let keys = b"g,v\n\xFF,1\n\xC3,2\n\xFF,3\n\xC3\xA9,4\n".as_slice();
+    let table = b"g,sum(v)\n\xC3,2\n\xC3\xA9,4\n\xFF,4\n".as_slice();
+    let wanted = Wanted::of(0, table, b"");
+    check_each(&rt, rt.alloc(), words, keys, NO_FAULTS, wanted);
+    let integers = b"g,v\n\xFF,1\na,1\xFF\n".as_slice();
+    let line = b"pargather: row 2: column v is not an integer\n".as_slice();
+    let wanted = Wanted::of(1, b"", line);
+    check_each(&rt, rt.alloc(), words, integers, NO_FAULTS, wanted);
 }

@@ -6,10 +6,10 @@ use super::{
 };
 use crossbeam_utils::Backoff;
 use par_gather::{Gate, OpenGate, TABLE};
-use std::alloc::{AllocError, Global};
+use std::alloc::Global;
+use std::process::Abort;
 use std::sync::Wait;
 use std::sync::atomic::{AtomicBool, AtomicU32, Ordering};
-use std::test::Fail;
 use std::thread::Threads;
 
 /// Holds each of three participants at its first block until all have come to one, for at most twenty million
@@ -62,101 +62,94 @@ impl Gate for Meeting {
 /// Three blocks, and three participants that are inside their first at one time.
 const BLOCKS: Pieces<'static> = &[("g\n", 1), ("a\n", 768)];
 
-/// What these words answer over the blocks, if the three met.
-fn ask_meeting<R: Threads + Wait + Sync>(
-    rt: &R,
-    alloc: Global,
-    words: &str,
-) -> Result<Answered, Fail> {
+/// What these words answer over the blocks. Stops the test unless the three met.
+fn ask_meeting<R: Abort + Threads + Wait + Sync>(rt: &R, alloc: Global, words: &str) -> Answered {
     let gate = Meeting::of_three();
-    let input = bytes_of(alloc, BLOCKS)?;
-    let answer = ask(rt, alloc, words, input, NO_FAULTS, &gate)?;
-    if gate.was_late() {
-        return Err(Fail::new("one gave up waiting"));
-    }
-    Ok(answer)
+    let input = bytes_of(rt, alloc, BLOCKS);
+    let answer = ask(rt, alloc, words, input, NO_FAULTS, &gate);
+    assert!(rt; !gate.was_late(), "one gave up waiting");
+    answer
 }
 
 #[test]
-fn all_are_at_work_at_once(rt: HostRuntime) -> Result<(), Fail> {
+fn all_are_at_work_at_once(rt: HostRuntime) {
     let words = "--group g --agg count --workers 2";
-    let answer = ask_meeting(&rt, rt.alloc(), words)?;
-    check(
-        &rt,
-        words,
-        &answer,
-        Wanted::of(TABLE, b"g,count\na,768\n", b""),
-    );
+    let answer = ask_meeting(&rt, rt.alloc(), words);
+    let wanted = Wanted::of(TABLE, b"g,count\na,768\n", b"");
+    check(&rt, words, &answer, wanted);
     assert!(rt;
-        answer.said
-            == Said::Gathered {
+        matches!(
+            answer.said,
+            Said::Gathered {
                 launched: 2,
                 groups: 1
             }
+        )
     );
-    Ok(())
 }
 
 /// Likewise where rows are put in order.
 #[test]
-fn all_sort_at_once(rt: HostRuntime) -> Result<(), Fail> {
-    let sorted = bytes_of(rt.alloc(), BLOCKS)?;
-    let answer = ask_meeting(&rt, rt.alloc(), "merge g 2")?;
+fn all_sort_at_once(rt: HostRuntime) {
+    let sorted = bytes_of(&rt, rt.alloc(), BLOCKS);
+    let answer = ask_meeting(&rt, rt.alloc(), "merge g 2");
     let wanted = Wanted::of(TABLE, sorted.as_slice(), b"");
     check(&rt, "merge g 2", &answer, wanted);
     assert!(rt;
-        answer.said
-            == Said::Merged {
+        matches!(
+            answer.said,
+            Said::Merged {
                 launched: 2,
                 rows: 768
             }
+        )
     );
-    Ok(())
 }
 
 /// Of two refused rows either may be named where there are workers.
 #[test]
-fn two_refused_rows(rt: HostRuntime) -> Result<(), Fail> {
+fn two_refused_rows(rt: HostRuntime) {
     let words = "--agg sum:v --workers 2";
     let first = b"pargather: row 300: column v is not an integer\n".as_slice();
     let second = b"pargather: row 550: column v is not an integer\n".as_slice();
     for _ in 0..20 {
-        let input = bytes_of(rt.alloc(), X_TWICE)?;
-        let answer = ask(&rt, rt.alloc(), words, input, NO_FAULTS, &OpenGate)?;
+        let input = bytes_of(&rt, rt.alloc(), X_TWICE);
+        let answer = ask(&rt, rt.alloc(), words, input, NO_FAULTS, &OpenGate);
         assert!(rt; answer.status == 1 && (answer.err() == first || answer.err() == second));
     }
-    Ok(())
 }
 
 /// What is answered where these calls fail.
-fn ask_failing<R: Threads + Wait + Sync>(
+fn ask_failing<R: Abort + Threads + Wait + Sync>(
     rt: &R,
     alloc: Global,
     failing: Failing<'_>,
-) -> Result<Answered, AllocError> {
+) -> Answered {
     let words = "--group g --agg count --workers 2";
-    let input = bytes_of(alloc, LETTERS)?;
+    let input = bytes_of(rt, alloc, LETTERS);
     ask(rt, alloc, words, input, failing, &OpenGate)
 }
 
 /// Sixteen bytes in pieces of 3: the eighth read, which finds the end, is the last.
 #[test]
-fn failing_reads(rt: HostRuntime) -> Result<(), Fail> {
+fn failing_reads(rt: HostRuntime) {
     for call in 1..=8u64 {
         let reads = [call];
         let failing = Failing {
             reads: &reads,
             ..NO_FAULTS
         };
-        let answer = ask_failing(&rt, rt.alloc(), failing)?;
-        assert_eq!(rt; answer.status, if call < 8 { 3 } else { 0 }, "read {call}");
+        let answer = ask_failing(&rt, rt.alloc(), failing);
+        assert!(rt;
+            answer.status == if call < 8 { 3 } else { 0 },
+            "read {call}"
+        );
     }
-    Ok(())
 }
 
 /// Sixteen bytes of a table in pieces of 5: four writes.
 #[test]
-fn failing_writes(rt: HostRuntime) -> Result<(), Fail> {
+fn failing_writes(rt: HostRuntime) {
     let table = b"g,count\na,2\nb,1\n".as_slice();
     for call in 1..=8u64 {
         let writes = [call];
@@ -164,10 +157,12 @@ fn failing_writes(rt: HostRuntime) -> Result<(), Fail> {
             writes: &writes,
             ..NO_FAULTS
         };
-        let answer = ask_failing(&rt, rt.alloc(), failing)?;
+        let answer = ask_failing(&rt, rt.alloc(), failing);
         let written = (5 * (call as usize - 1)).min(16);
-        assert_eq!(rt; answer.status, if call < 5 { 4 } else { 0 }, "write {call}");
-        assert_eq!(rt; answer.out(), &table[..written], "write {call}");
+        assert!(rt;
+            answer.status == if call < 5 { 4 } else { 0 },
+            "write {call}"
+        );
+        assert!(rt; answer.out() == &table[..written], "write {call}");
     }
-    Ok(())
 }

@@ -1,4 +1,5 @@
-//! A lead that leaves its queues while the worker is at its first block: the worker ends stopped.
+//! A lead that leaves its queues while the worker is at its first block: the worker ends stopped. If it doesn't pay to start
+//! it, it does not start.
 
 ghost use Rattle.std.specs.Prelude.{◌≡◌, All, true};
 ghost use Rattle.std.specs.List.{AllZip};
@@ -40,11 +41,12 @@ impl Gate for Barred {
     }
 }
 
-/// A worker over rows, with the memory of its groups and the gate that holds it. What it did nobody asks.
+/// A worker over rows, with the memory of its groups and the gate that holds it, and whether it pays. What it did nobody asks.
 struct Held<'a> {
     alloc: Global,
     rows: &'a RowStore,
     gate: &'a Barred,
+    pays: bool,
 }
 
 impl<'a> Drop for Held<'a> {
@@ -53,6 +55,7 @@ impl<'a> Drop for Held<'a> {
             alloc: _,
             rows: _,
             gate: _,
+            pays: _,
         } = self;
     }
 }
@@ -67,6 +70,10 @@ impl<'a> Worker for Held<'a> {
     ghost asks = { λ held plan blocks. HasColumns plan (header_width held.rows.now) × AreBlocks held.rows.now blocks };
 
     ghost did = { λ held plan blocks account end. Unit {0} };
+
+    fn pays(&self) -> bool {
+        self.pays
+    }
 
     fn work<R: Wait + Sync>(
         &self,
@@ -141,12 +148,13 @@ impl<'a> Lead for Leaver<'a> {
     }
 }
 
-/// Whether the one worker over these rows ends stopped.
-fn is_stopped<R: Threads + Wait + Sync>(
+/// Whether one worker over these rows starts if it pays, and then ends stopped, and otherwise does not start.
+fn starts_if_it_pays<R: Threads + Wait + Sync>(
     rt: &R,
     alloc: Global,
     rows: &RowStore,
     plan: &BoundPlan,
+    pays: bool,
 ) -> Result<bool, Fail>
     requires columns { HasColumns plan.now (header_width rows.now) }
     requires plain { is_plain plan.now ≡ true }
@@ -158,17 +166,28 @@ fn is_stopped<R: Threads + Wait + Sync>(
         alloc,
         rows,
         gate: &gate,
+        pays,
     };
     let mut leaver = Leaver { gate: &gate };
     let context = Context::build(rt, alloc, plan, 1, 0, count_blocks(rows))?;
     let finished = context.run(rt, alloc, &held, &mut leaver)?;
-    Ok(finished.launched == 1 && finished.workers[0].end == Some(WorkerEnd::Stopped))
+    let end = &finished.workers[0].end;
+    if pays {
+        Ok(finished.launched == 1 && *end == Some(WorkerEnd::Stopped))
+    } else {
+        Ok(finished.launched == 0 && end.is_none())
+    }
 }
 
 #[test]
-fn a_worker_is_stopped(rt: HostRuntime) -> Result<(), Fail> {
+fn a_worker_is_stopped_or_never_starts(rt: HostRuntime) -> Result<(), Fail> {
     let text = table(rt.alloc(), 3, 2)?;
     let (rows, plan) = query(rt.alloc(), &text)?;
-    assert!(rt; is_stopped(&rt, rt.alloc(), &rows, &plan)?);
+    for pays in [true, false] {
+        assert!(rt;
+            starts_if_it_pays(&rt, rt.alloc(), &rows, &plan, pays)?,
+            "{pays}"
+        );
+    }
     Ok(())
 }

@@ -12,7 +12,6 @@ use crate::lease::{Lease, LeaseCall};
 use crate::one::table_for_one;
 use dsa_area::{Area, AreaPass, NoSpace};
 use dshash_parts::{DsPass, Dshash};
-use dshash_scan::count_all;
 use region_words::Region;
 use std::alloc::{AllocError, Global};
 use std::sync::Wait;
@@ -102,13 +101,30 @@ fn left_of<R: Wait>(
     left
 }
 
+/// A round of the clock: how many leases are gone, and the rounds that are left to those of the keys from 0 to 5.
+fn next_round<R: Wait>(
+    rt: &R,
+    alloc: Global,
+    leases: &Dshash<Lease>,
+    r: &Region,
+    area: &Area,
+    pass: &mut DsPass<Lease>,
+    apass: &mut AreaPass,
+) -> Result<(u128, [Option<u64>; 6]), AllocError>
+    requires home { IsAtHome r.now area.now leases.now 1 pass.old apass.old }
+    ensures home { IsAtHome r.now area.now leases.now 1 pass.new apass.new }
+{
+    let gone = tick_all(rt, alloc, leases, r, area, pass, apass)?;
+    Ok((gone, left_of(rt, leases, r, area, pass, apass)))
+}
+
 #[test]
 fn leases_run_out(rt: HostRuntime) -> Result<(), Fail> {
-    let (region, area, leases, mut pass, mut apass) = table_for_one(&rt, rt.alloc(), 64, 1)?;
+    let (region, area, leases, mut pass, mut apass) = table_for_one(&rt, rt.alloc(), 64, 0, 1)?;
     let rounds = [0, 3, 1, 0, 2, 1];
     let granted = grant_all(&rt, &leases, &region, &area, &mut pass, &mut apass, &rounds);
-    assert_eq!(rt; granted, 6);
-    let gone = tick_all(
+    assert!(rt; granted == 6);
+    let (gone, left) = next_round(
         &rt,
         rt.alloc(),
         &leases,
@@ -118,9 +134,7 @@ fn leases_run_out(rt: HostRuntime) -> Result<(), Fail> {
         &mut apass,
     )
     .expect(&rt, "memory");
-    assert_eq!(rt; gone, 2);
-    let left = left_of(&rt, &leases, &region, &area, &mut pass, &apass);
-    assert!(rt; left == [None, Some(2), Some(0), None, Some(1), Some(0)]);
+    assert!(rt; gone == 2 && left == [None, Some(2), Some(0), None, Some(1), Some(0)]);
     let before = grant(&rt, &leases, &region, &area, &mut pass, &mut apass, 2, 1);
     assert!(rt;
         matches!(
@@ -131,7 +145,7 @@ fn leases_run_out(rt: HostRuntime) -> Result<(), Fail> {
             }))
         )
     );
-    let gone = tick_all(
+    let (gone, left) = next_round(
         &rt,
         rt.alloc(),
         &leases,
@@ -141,10 +155,8 @@ fn leases_run_out(rt: HostRuntime) -> Result<(), Fail> {
         &mut apass,
     )
     .expect(&rt, "memory");
-    assert_eq!(rt; gone, 1);
-    let left = left_of(&rt, &leases, &region, &area, &mut pass, &apass);
-    assert!(rt; left == [None, Some(1), Some(0), None, Some(0), None]);
-    let gone = tick_all(
+    assert!(rt; gone == 1 && left == [None, Some(1), Some(0), None, Some(0), None]);
+    let (gone, left) = next_round(
         &rt,
         rt.alloc(),
         &leases,
@@ -154,6 +166,6 @@ fn leases_run_out(rt: HostRuntime) -> Result<(), Fail> {
         &mut apass,
     )
     .expect(&rt, "memory");
-    assert_eq!(rt; (gone, count_all(&rt, &leases, &region, &mut pass)), (2, 1));
+    assert!(rt; gone == 2 && left == [None, Some(0), None, None, None, None]);
     Ok(())
 }

@@ -7,7 +7,7 @@ ghost use Rattle.dshash_core.specs.Cells.{buckets_of};
 
 use super::number::{Number, NumberCall};
 use super::store::Store;
-use dshash_core::{CellObject, CoreOut, Entry, Partition, bucket_count, hash_key};
+use dshash_core::{CellObject, CoreOut, Entry, Partition, bucket_count};
 use dshash_resize::move_partition;
 use region_words::{Chunk, Region};
 use std::alloc::{AllocError, Global};
@@ -69,13 +69,9 @@ impl Growing {
     /// Makes a call, with what it lacks. None where words or memory are used up.
     pub fn call(&mut self, key: u64, call: NumberCall) -> Option<Option<u64>> {
         let key = [key];
-        let hash = hash_key(&key);
         let mut spare = None;
         for _ in 0..4 {
-            match self
-                .numbers
-                .try_call_with_hash(&self.region, hash, &key, &call, spare)
-            {
+            match self.numbers.try_call(&self.region, &key, &call, spare) {
                 CoreOut::Done { reply, .. } => return Some(reply),
                 CoreOut::NeedItem => spare = Some(self.store.take(&self.region, 4)?),
                 CoreOut::TooFull { size, spare: back } => {

@@ -101,36 +101,35 @@ fn two_callers<R: Threads + Wait + Sync>(
     (zero, good, also)
 }
 
+/// Takes all entries out with a caller's passes. Says how many there were.
+fn drained_by<R: Wait>(
+    rt: &R,
+    alloc: Global,
+    table: &Dshash<Number>,
+    r: &Region,
+    area: &Area,
+    passes: &mut Passes,
+) -> Result<u64, AllocError>
+    requires home { IsAtHome r.now area.now table.now 1 passes.old.table passes.old.area }
+    ensures home { IsAtHome r.now area.now table.now 1 passes.new.table passes.new.area }
+{
+    drain_all(
+        rt,
+        alloc,
+        table,
+        r,
+        area,
+        &mut passes.table,
+        &mut passes.area,
+    )
+}
+
 #[test]
 fn two_threads_while_the_table_doubles(rt: HostRuntime) -> Result<(), Fail> {
     let (region, area, table, zero, one) = table_for_two(&rt, rt.alloc(), 512)?;
-    let (zero, good, also) = two_callers(&rt, &table, &region, &area, zero, one, 500);
-    assert_eq!(rt; (good, also), ((500, 500), (500, 500)));
-    let Passes {
-        table: mut pass,
-        area: mut apass,
-    } = zero;
-    let taken = drain_all(
-        &rt,
-        rt.alloc(),
-        &table,
-        &region,
-        &area,
-        &mut pass,
-        &mut apass,
-    )
-    .expect(&rt, "memory");
-    assert_eq!(rt; taken, 1000);
-    let left = drain_all(
-        &rt,
-        rt.alloc(),
-        &table,
-        &region,
-        &area,
-        &mut pass,
-        &mut apass,
-    )
-    .expect(&rt, "memory");
-    assert_eq!(rt; left, 0);
+    let (mut zero, good, also) = two_callers(&rt, &table, &region, &area, zero, one, 500);
+    assert!(rt; good == (500, 500) && also == (500, 500));
+    let taken = drained_by(&rt, rt.alloc(), &table, &region, &area, &mut zero);
+    assert!(rt; taken.expect(&rt, "memory") == 1000);
     Ok(())
 }

@@ -102,7 +102,7 @@ fn listed<R: Wait>(
 
 #[test]
 fn a_table_adds_up_what_is_called(rt: HostRuntime) -> Result<(), Fail> {
-    let (region, area, table, mut pass, mut apass) = table_for_one(&rt, rt.alloc(), 64, 1)?;
+    let (region, area, table, mut pass, mut apass) = table_for_one(&rt, rt.alloc(), 64, 0, 1)?;
     let (one, two) = (one_row(), two_rows());
     let first = call_all(&rt, &table, &region, &area, &mut pass, &mut apass, 60, &one);
     let second = call_all(&rt, &table, &region, &area, &mut pass, &mut apass, 40, &two);
@@ -110,6 +110,6 @@ fn a_table_adds_up_what_is_called(rt: HostRuntime) -> Result<(), Fail> {
     partial_agg::combine(&mut both, &two);
     let added = listed(&rt, rt.alloc(), &table, &region, &mut pass, &both).expect(&rt, "memory");
     let alone = listed(&rt, rt.alloc(), &table, &region, &mut pass, &one).expect(&rt, "memory");
-    assert_eq!(rt; (first, second, added, alone), (60, 40, 40, 20));
+    assert!(rt; first == 60 && second == 40 && added == 40 && alone == 20);
     Ok(())
 }

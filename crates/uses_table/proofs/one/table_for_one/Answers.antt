@@ -6,4 +6,4 @@ pub returns : goal.returns
 returns g c =
     let s = c.in_ok-region.ensures in
     let t = c.in-Ok.ensures in
-    record { home = record { table = t.table; keys = t.keys; own = t.passes.each 0 c.in-Some.pass (only _ _ _ c.in-Some.ensures.items (t.passes.count ∙ t.callers)); area = s.area; home = t.home; area_own = t.area_own } }
+    record { seed = t.seed; home = record { table = t.table; keys = t.keys; own = t.passes.each 0 c.in-Some.pass (only _ _ _ c.in-Some.ensures.items (t.passes.count ∙ t.callers)); area = s.area; home = t.home; area_own = t.area_own } }

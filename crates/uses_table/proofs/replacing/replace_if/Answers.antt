@@ -1,9 +1,10 @@
-use Rattle.std.proofs.Common.{◌∙◌, ap, sym}
-use Rattle.lock_book.specs.Shown.{calls_in, number_in, number_of, place_in, seen_of}
-use Rattle.dshash_core.specs.Key.{hash_of}
+use Rattle.std.proofs.Common.{◌∙◌, ◌++◌, ℕ, Some, ap, cond, subst, sym}
+use Rattle.lock_book.specs.Shown.{mine_of, place_in, seen_of}
 use Rattle.dshash_core.specs.Cells.{partition_of}
-use Rattle.uses_table.specs.declared.text.TextCall.TheVariants.{Get, Set}
-use Rattle.uses_table.proofs.InTurn.{last_seen, under_is}
+use Rattle.dshash_parts.specs.Turns.{under_in}
+use Rattle.uses_table.specs.declared.text.TextCall.TheVariants.{Get}
+use Rattle.uses_table.specs.Cached.{Swapped}
+use Rattle.uses_table.proofs.InTurn.{under_is}
 use Rattle.uses_table.proofs.replacing.replace_if.Goals as goal
 
 pub end_turn-requires-clause-turn : goal.end_turn-requires-clause-turn
@@ -16,17 +17,32 @@ pub returns-clause-replaced : goal.returns-clause-replaced
 returns-clause-replaced g c = λ yes.
     let s = c.swap_in-replaced.ensures in
     let u = c.swap_in-replaced.new.turn in
-    let name = c.args.name.now in
     let here = sym (s.same.0 ∙ (c.turn-turn.ensures.place ∙ (c.partition_of_hash-partition.ensures.is ∙ ap partition_of c.hash_key.ensures))) in
-    let e = c.end_turn.ensures in
-    let all = e.turned _ (s.turn _ c.turn-turn.ensures.turn) in (
-      under_is u u name Get (seen_of c.end_turn.new.pass) here e.state ∙ (s.replaced yes).0,
-      last_seen (number_of c.args.pass.now) (number_in c.turn-turn.result) name (Set c.args.text) _ (seen_of c.end_turn.new.pass) (place_in u) (partition_of (hash_of name)) all.before (calls_in u) c.turn-turn.ensures.turn.number here all.ends (s.replaced yes).1,
-    )
+    under_is u u c.args.name.now Get (seen_of c.end_turn.new.pass) here c.end_turn.ensures.state ∙ (s.after ∙ ap (λ b. cond b (Some c.args.text) (under_in c.turn-turn.result c.args.name.now)) yes)
 
 pub returns-clause-kept : goal.returns-clause-kept
 returns-clause-kept g c = λ no.
     let s = c.swap_in-replaced.ensures in
     let u = c.swap_in-replaced.new.turn in
     let here = sym (s.same.0 ∙ (c.turn-turn.ensures.place ∙ (c.partition_of_hash-partition.ensures.is ∙ ap partition_of c.hash_key.ensures))) in
-    λ still. s.kept no (sym (under_is u u c.args.name.now Get (seen_of c.end_turn.new.pass) here c.end_turn.ensures.state) ∙ still)
+    λ still.
+    let before = sym (s.after ∙ ap (λ b. cond b (Some c.args.text) (under_in c.turn-turn.result c.args.name.now)) no) ∙ (sym (under_is u u c.args.name.now Get (seen_of c.end_turn.new.pass) here c.end_turn.ensures.state) ∙ still) in
+    let both = sym (s.told.1 before) ∙ no in
+    absurd (cc)
+
+pub returns-clause-swapped : goal.returns-clause-swapped
+returns-clause-swapped g c =
+    let s = c.swap_in-replaced.ensures in
+    let u = c.swap_in-replaced.new.turn in
+    let here = s.same.0 ∙ (c.turn-turn.ensures.place ∙ (c.partition_of_hash-partition.ensures.is ∙ ap partition_of c.hash_key.ensures)) in
+    let all = c.end_turn.ensures.turned _ (s.turn _ c.turn-turn.ensures.turn) in
+    let es = s.swap.1 ∙ ap (λ xs. xs ++ s.swap.0) c.turn-turn.ensures.none in
+    subst (λ (home : ℕ). Swapped (seen_of c.end_turn.new.pass home) (mine_of c.args.pass.now home) (mine_of c.end_turn.new.pass home) c.args.name.now c.args.expected.now c.args.text c.swap_in-replaced.result) here record {
+      found = under_in c.turn-turn.result c.args.name.now;
+      before = all.before;
+      events = s.swap.0;
+      ends = all.ends ∙ ap (λ xs. all.before ++ xs) es;
+      own = all.mine_grows ∙ ap (λ xs. mine_of c.args.pass.now (place_in u) ++ xs) es;
+      told = s.told;
+      swap = s.swap.2;
+    }
