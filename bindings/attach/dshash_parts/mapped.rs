@@ -9,7 +9,7 @@ use lock_book::Shelf;
 use region_words::Region;
 use std::sync::Arc;
 
-/// Where a table lies.
+/// Where a table lies, which has no seed.
 #[derive(Clone, Copy, Debug, PartialEq, Eq)]
 pub struct TableSite {
     /// The words of a key.
@@ -27,7 +27,12 @@ where
     O::Reply: Send,
 {
     /// Where it lies.
+    ///
+    /// # Panics
+    ///
+    /// If it has a seed, which a site doesn't say.
     pub fn site(&self) -> TableSite {
+        assert_eq!(self.seed, 0, "a table that other processes attach has no seed");
         TableSite {
             key_words: self.key_words,
             item_bytes: self.item_bytes,
@@ -52,6 +57,7 @@ where
     /// As `atomic_table::Table::attach`.
     pub unsafe fn attach(mapping: &Arc<Mapping>, site: &TableSite, callers: u32) -> Dshash<O> {
         Dshash {
+            seed: 0,
             key_words: site.key_words,
             item_bytes: site.item_bytes,
             // SAFETY: as the caller says.

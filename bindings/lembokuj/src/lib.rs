@@ -46,7 +46,8 @@
 //! sleeps at the lock of a table or an area enters a list that may grow (it yields instead if there is no memory), and std makes its
 //! record of a thread that it has not started; a future clones its executor's `Waker`.
 //!
-//! **Hostile keys.** The hash of a [`Table`] is fixed and known (HashDoS). **A new chunk** of an [`Area`] holds whatever its last
+//! **Hostile keys.** The hash of a [`Table`] is fixed and known (HashDoS), but in one that is made with a seed
+//! ([`Table::open_with_seed`]). **A new chunk** of an [`Area`] holds whatever its last
 //! owner left there.
 
 #![cfg_attr(not(processes), forbid(unsafe_code))]

@@ -132,7 +132,16 @@ impl<K: Words, T: Send> OwnedTable<K, T> {
     ///
     /// [`TableError`] has the causes.
     pub fn open(values: u32, callers: u32) -> Result<OwnedTable<K, T>, TableError> {
-        let keys = Table::open(u64::from(values), callers)?;
+        OwnedTable::open_with_seed(values, callers, 0)
+    }
+
+    /// As [`OwnedTable::open`], with a seed as in [`Table::open_with_seed`].
+    ///
+    /// # Errors
+    ///
+    /// [`TableError`] has the causes.
+    pub fn open_with_seed(values: u32, callers: u32, seed: u64) -> Result<OwnedTable<K, T>, TableError> {
+        let keys = Table::open_with_seed(u64::from(values), callers, seed)?;
         // A value that takes another's place is in its slot before that one leaves.
         let count = u64::from(values) + u64::from(callers);
         let slots = Slots::new(usize::try_from(count).map_err(|_| TableError::Memory)?)?;

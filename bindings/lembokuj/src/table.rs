@@ -196,9 +196,9 @@ struct Passes<V: Words> {
 
 /// A handle of a table from keys to values. Keys are the same if their words are.
 ///
-/// A call takes the lock of one of 128 partitions, by the key's hash, for a walk along one chain of items. The hash is fixed
-/// and known: a caller that chooses the keys can choose them in one chain (HashDoS), so keys of strangers need a hash with a secret in
-/// front. A table that is full refuses new keys and goes on with those that it has.
+/// A call takes the lock of one of 128 partitions, by the key's hash, for a walk along one chain of items. That hash is fixed
+/// and known: a caller that chooses the keys can choose them in one chain (HashDoS), so a table of strangers' keys is made with a seed
+/// ([`Table::open_with_seed`]). A table that is full refuses new keys and goes on with those that it has.
 ///
 /// ```
 /// use lembokuj::Table;
@@ -293,8 +293,39 @@ impl<K: Words, V: Words> Table<K, V> {
     ///
     /// [`TableError`] has the causes.
     pub fn open_pages(pages: u32, callers: u32) -> Result<Table<K, V>, TableError> {
+        Table::open_pages_with_seed(pages, callers, 0)
+    }
+
+    /// As [`Table::open`], with a seed for keys that strangers choose: draw one for each table, and keep it from them. Keys that were
+    /// chosen without knowing it lie in one chain no more than others, since SipHash-1-3 of the seed and the key says the chain; they
+    /// may still be those of one partition. Each call hashes its key once more. The seed 0 is none.
+    ///
+    /// ```
+    /// use lembokuj::Table;
+    /// use std::hash::{BuildHasher, RandomState};
+    ///
+    /// let seed = RandomState::new().hash_one(0);
+    /// let mut table = Table::<u64, u64>::open_with_seed(1000, 1, seed)?;
+    /// assert_eq!(table.insert(&7, 1), Ok(None));
+    /// assert_eq!(table.get(&7), Some(1));
+    /// # Ok::<(), lembokuj::TableError>(())
+    /// ```
+    ///
+    /// # Errors
+    ///
+    /// [`TableError`] has the causes.
+    pub fn open_with_seed(keys: u64, callers: u32, seed: u64) -> Result<Table<K, V>, TableError> {
+        Table::open_pages_with_seed(table_pages(keys, K::WORDS, V::WORDS), callers, seed)
+    }
+
+    /// As [`Table::open_pages`], with a seed as in [`Table::open_with_seed`].
+    ///
+    /// # Errors
+    ///
+    /// [`TableError`] has the causes.
+    pub fn open_pages_with_seed(pages: u32, callers: u32, seed: u64) -> Result<Table<K, V>, TableError> {
         let () = Self::SIZES;
-        Table::with_key_words(pages, callers, K::WORDS as u32)
+        Table::with_key_words(pages, callers, seed, K::WORDS as u32)
     }
 
     /// The value of a key. It takes nothing of the pages, so it answers if the table is full too, and it is one turn at
@@ -581,10 +612,10 @@ impl<K, V: Words> Table<K, V> {
         u64::try_from(keys).unwrap_or(u64::MAX)
     }
 
-    /// An empty table in `pages` pages, whose keys have `key_words` words, 1 to 64.
-    pub(crate) fn with_key_words(pages: u32, callers: u32, key_words: u32) -> Result<Table<K, V>, TableError> {
+    /// An empty table in `pages` pages with this seed, whose keys have `key_words` words, 1 to 64.
+    pub(crate) fn with_key_words(pages: u32, callers: u32, seed: u64, key_words: u32) -> Result<Table<K, V>, TableError> {
         let (region, area, mut area_passes) = new_area(pages, callers, 1)?;
-        let made = Dshash::new(&crate::HOST, Global, &region, &area, &mut area_passes[0], key_words, callers);
+        let made = Dshash::with_seed(&crate::HOST, Global, &region, &area, &mut area_passes[0], seed, key_words, callers);
         let (table, passes) = made.map_err(|why| match why {
             DsNew::Memory => TableError::Memory,
             DsNew::NoSpace { .. } => TableError::NoSpace,

@@ -137,6 +137,21 @@ impl WordTable {
     ///
     /// [`TableError`] has the causes; [`TableError::Words`] for numbers of words that are out of range.
     pub fn open(pages: u32, callers: u32, key_words: usize, value_words: usize) -> Result<WordTable, TableError> {
+        WordTable::open_with_seed(pages, callers, key_words, value_words, 0)
+    }
+
+    /// As [`WordTable::open`], with a seed as in [`Table::open_with_seed`].
+    ///
+    /// # Errors
+    ///
+    /// As [`WordTable::open`].
+    pub fn open_with_seed(
+        pages: u32,
+        callers: u32,
+        key_words: usize,
+        value_words: usize,
+        seed: u64,
+    ) -> Result<WordTable, TableError> {
         if !(1..=MOST_KEY_WORDS).contains(&key_words) || value_words > MOST_VALUE_WORDS {
             return Err(TableError::Words);
         }
@@ -144,7 +159,7 @@ impl WordTable {
         macro_rules! by_size {
             ($($size:literal)*) => {
                 match value_words.next_power_of_two() {
-                    $($size => Box::new(Sized::<$size>::with_key_words(pages, callers, key_words as u32)?) as Box<dyn Calls>,)*
+                    $($size => Box::new(Sized::<$size>::with_key_words(pages, callers, seed, key_words as u32)?) as Box<dyn Calls>,)*
                     _ => return Err(TableError::Words),
                 }
             };

@@ -199,6 +199,13 @@ static void tables(void) {
     WANT(lk_table_new(64, 5000, table), LK_BAD_CALLERS);
     WANT(lk_table_new(1, 1, table), LK_NO_SPACE);
     WANT(lk_table_new(64, 1, NULL), LK_NULL);
+    WANT(lk_table_new_with_seed(64, 5000, 7, &more), LK_BAD_CALLERS);
+    WANT(lk_table_new_with_seed(64, 1, 7, NULL), LK_NULL);
+    WANT(lk_table_new_with_seed(64, 1, 7, &more), LK_OK);
+    WANT(lk_table_add(more, 3, 5, &value), LK_ABSENT);
+    WANT(lk_table_get(more, 3, &value), LK_OK);
+    HOLDS(value == 5);
+    WANT(lk_table_close(&more), LK_OK);
     WANT(lk_table_new(64, 1, table), LK_OK);
     for (key = 0; code == LK_ABSENT; key++) code = lk_table_put(table[0], key, 2 * key, NULL);
     WANT(code, LK_NO_SPACE);
@@ -237,6 +244,11 @@ static void words(void) {
     WANT(lk_table_new_words(64, 0, 2, 3, &table), LK_BAD_CALLERS);
     WANT(lk_table_new_words(1, 1, 2, 3, &table), LK_NO_SPACE);
     WANT(lk_table_new_words(lk_table_pages_words(100, 2, 3), 2, 2, 3, NULL), LK_NULL);
+    WANT(lk_table_new_words_with_seed(lk_table_pages_words(100, 2, 3), 2, 2, 3, 7, &table), LK_OK);
+    WANT(lk_words_put(table, key, value, old), LK_ABSENT);
+    WANT(lk_words_get(table, key, old), LK_OK);
+    HOLDS(memcmp(old, value, sizeof old) == 0);
+    WANT(lk_words_close(&table), LK_OK);
     WANT(lk_table_new_words(lk_table_pages_words(100, 2, 3), 2, 2, 3, &table), LK_OK);
     WANT(lk_words_handle(table, &second), LK_OK);
     WANT(lk_words_handle(table, &third), LK_NO_HANDLE);

@@ -206,12 +206,17 @@ int lk_area_close(lk_area **area);
 typedef struct lk_table lk_table;
 
 /* How many pages a table takes for this number of keys whose hashes are well distributed. 1,000 keys take 112, a million 12,000. The hash
- * is fixed and known: a caller that chooses the keys can choose them in one chain. */
+ * is fixed and known: a caller that chooses the keys can choose them in one chain, so a table of strangers' keys takes a seed (below). */
 uint32_t lk_table_pages(uint64_t keys);
 
 /* A table in an area of pages of 4 KiB, 65,536 at most, of which an empty one takes 16; writes a handle for each
  * caller to out[0 .. callers]. LK_BAD_SIZE, LK_BAD_CALLERS, LK_NO_MEMORY, LK_NO_SPACE. */
 LK_TELLS int lk_table_new(uint32_t pages, uint32_t callers, lk_table **out);
+
+/* The same with a seed, for keys that strangers choose: draw one for each table, from getrandom for example, and keep it from them.
+ * Keys that were chosen without knowing it lie in one chain no more than others. Each call hashes its key once more, by
+ * SipHash-1-3. The seed 0 is none. It writes one handle; lk_table_handle makes the others. */
+LK_TELLS int lk_table_new_with_seed(uint32_t pages, uint32_t callers, uint64_t seed, lk_table **out);
 
 /* One more handle, if fewer are out than the table was made for. LK_NO_HANDLE, LK_NO_MEMORY. */
 LK_TELLS int lk_table_handle(const lk_table *table, lk_table **out);
@@ -238,11 +243,14 @@ int lk_table_close(lk_table **table);
 
 typedef struct lk_words lk_words;
 
-/* How many pages such a table takes, and the table: keys of 1 to 64 words, values of 0 to 256, which take the next power of two.
+/* How many pages such a table takes, and the table, without a seed or with: keys of 1 to 64 words, values of 0 to 256, which take the
+ * next power of two.
  * It writes one handle; lk_words_handle makes the others, up to callers at a time. LK_BAD_SIZE, LK_BAD_CALLERS,
  * LK_NO_MEMORY, LK_NO_SPACE. */
 uint32_t lk_table_pages_words(uint64_t keys, uint32_t key_words, uint32_t value_words);
 LK_TELLS int lk_table_new_words(uint32_t pages, uint32_t callers, uint32_t key_words, uint32_t value_words, lk_words **out);
+LK_TELLS int lk_table_new_words_with_seed(uint32_t pages, uint32_t callers, uint32_t key_words, uint32_t value_words, uint64_t seed,
+                                          lk_words **out);
 LK_TELLS int lk_words_handle(const lk_words *table, lk_words **out);
 
 /* As the calls of lk_table above; key has the words of a key, value and old (which may be NULL) those of a value. */

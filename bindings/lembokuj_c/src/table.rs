@@ -107,6 +107,25 @@ pub unsafe extern "C" fn lk_table_new(pages: u32, callers: u32, out: *mut *mut H
     }
 }
 
+/// See the header.
+///
+/// # Safety
+///
+/// `out` is null or may be written.
+#[unsafe(no_mangle)]
+pub unsafe extern "C" fn lk_table_new_with_seed(
+    pages: u32,
+    callers: u32,
+    seed: u64,
+    out: *mut *mut Handle<Numbers>,
+) -> c_int {
+    match Table::open_pages_with_seed(pages, callers, seed) {
+        // SAFETY: the caller's duty.
+        Ok(table) => code(unsafe { put_handle(out, TABLE, Numbers::Threads(table)) }.map(|()| LK_OK)),
+        Err(why) => why_no_table(why),
+    }
+}
+
 /// The code of why there is no table.
 pub(crate) fn why_no_table(why: TableError) -> c_int {
     match why {

@@ -29,7 +29,25 @@ pub unsafe extern "C" fn lk_table_new_words(
     value_words: u32,
     out: *mut *mut Handle<WordTable>,
 ) -> c_int {
-    match WordTable::open(pages, callers, key_words as usize, value_words as usize) {
+    // SAFETY: the caller's duty.
+    unsafe { lk_table_new_words_with_seed(pages, callers, key_words, value_words, 0, out) }
+}
+
+/// See the header.
+///
+/// # Safety
+///
+/// `out` is null or may be written.
+#[unsafe(no_mangle)]
+pub unsafe extern "C" fn lk_table_new_words_with_seed(
+    pages: u32,
+    callers: u32,
+    key_words: u32,
+    value_words: u32,
+    seed: u64,
+    out: *mut *mut Handle<WordTable>,
+) -> c_int {
+    match WordTable::open_with_seed(pages, callers, key_words as usize, value_words as usize, seed) {
         // SAFETY: the caller's duty.
         Ok(table) => code(unsafe { put_handle(out, WORD_TABLE, table) }.map(|()| LK_OK)),
         Err(why) => why_no_table(why),

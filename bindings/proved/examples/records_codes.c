@@ -232,6 +232,26 @@ static void would_block(void) {
     IS(same(&old, &values[0]), true);
 }
 
+/* A table with a seed. */
+static void with_seed(void) {
+    lk_records_try seeded = LK_BLANK;
+    IS(lk_records_new_with_seed_try(1, 3000, 7, NULL), LK_NULL);
+    IS(lk_records_new_with_seed_try(0, 3000, 7, &seeded), LK_BAD_CALLERS);
+    IS(lk_records_new_with_seed_try(1, 67108736, 7, &seeded), LK_BAD_SIZE);
+    IS(lk_records_new_with_seed_try(1, 3000, 7, &seeded), LK_OK);
+    IS(lk_records_new_with_seed_try(1, 3000, 7, &seeded), LK_IN_USE);
+    for (uint64_t key = 0; key < 50; key++) {
+        lk_record value = record_of(2 * key);
+        IS(lk_records_put_wait(&seeded, key, &value, &old), LK_ABSENT);
+    }
+    for (uint64_t key = 0; key < 50; key++) {
+        lk_record value = record_of(2 * key);
+        IS(lk_records_get_try(&seeded, key, &old), LK_OK);
+        IS(same(&old, &value), true);
+    }
+    IS(lk_records_close_try(&seeded), LK_OK);
+}
+
 /* The requests of each call are refused. */
 static void no_memory(void) {
     lk_records_try first = LK_BLANK, next = LK_BLANK;
@@ -267,6 +287,7 @@ int main(void) {
     words();
     count_and_list();
     would_block();
+    with_seed();
     no_memory();
     close_all();
     if (line_of_failure) {

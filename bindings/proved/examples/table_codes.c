@@ -208,6 +208,22 @@ static void would_block(void) {
     IS(old, values[0]);
 }
 
+/* A table with a seed. */
+static void with_seed(void) {
+    lk_table_try seeded = LK_BLANK;
+    IS(lk_table_new_with_seed_try(1, 1000, 7, NULL), LK_NULL);
+    IS(lk_table_new_with_seed_try(0, 1000, 7, &seeded), LK_BAD_CALLERS);
+    IS(lk_table_new_with_seed_try(1, 67108736, 7, &seeded), LK_BAD_SIZE);
+    IS(lk_table_new_with_seed_try(1, 1000, 7, &seeded), LK_OK);
+    IS(lk_table_new_with_seed_try(1, 1000, 7, &seeded), LK_IN_USE);
+    for (uint64_t key = 0; key < 50; key++) IS(lk_table_put_wait(&seeded, key, 2 * key, &old), LK_ABSENT);
+    for (uint64_t key = 0; key < 50; key++) {
+        IS(lk_table_get_try(&seeded, key, &old), LK_OK);
+        IS(old, 2 * key);
+    }
+    IS(lk_table_close_try(&seeded), LK_OK);
+}
+
 /* The requests of each call are refused. */
 static void no_memory(void) {
     lk_table_try first = LK_BLANK, next = LK_BLANK;
@@ -245,6 +261,7 @@ int main(void) {
     words();
     count_and_list();
     would_block();
+    with_seed();
     no_memory();
     close_all();
     if (line_of_failure) {

@@ -390,6 +390,7 @@ typedef struct lk_table_try {
 /* What liblk_table.a exports. Each pointer has to be good, the two handles of lk_raw_table_share have to differ, and what
  * lk_raw_table_list writes has to lie apart: both rows and the count. */
 int32_t lk_raw_table_new(uint32_t callers, uint64_t words, lk_table_try *first);
+int32_t lk_raw_table_new_with_seed(uint32_t callers, uint64_t words, uint64_t seed, lk_table_try *first);
 int32_t lk_raw_table_share(uint64_t words, lk_table_try *from, lk_table_try *next);
 int32_t lk_raw_table_put(lk_table_try *table, uint64_t key, uint64_t word, uint64_t *old);
 int32_t lk_raw_table_add(lk_table_try *table, uint64_t key, uint64_t more, uint64_t *old);
@@ -405,6 +406,13 @@ int32_t lk_raw_table_close(lk_table_try *table);
  * LK_BAD_SIZE (above 67,108,735 words), LK_BAD_CALLERS, LK_NO_MEMORY, LK_IN_USE. */
 static inline int lk_table_new_try(uint32_t callers, uint64_t words, lk_table_try *first) {
     return first ? lk_raw_table_new(callers, words, first) : LK_NULL;
+}
+
+/* The same with a seed, for keys that strangers choose: draw one, from getrandom for example, and keep it from them. Without one
+ * (0) the hash is known, and keys can be chosen that all lie in one chain, which each call then walks. With one, each call hashes its
+ * key once more, by SipHash-1-3. */
+static inline int lk_table_new_with_seed_try(uint32_t callers, uint64_t words, uint64_t seed, lk_table_try *first) {
+    return first ? lk_raw_table_new_with_seed(callers, words, seed, first) : LK_NULL;
 }
 
 /* A handle of a further caller, which gets this number of its words, at least 1. It has to be blank. LK_BAD_CALLERS if
@@ -573,6 +581,7 @@ typedef struct lk_records_try {
 /* What liblk_records.a exports. Each pointer has to be good, the two handles of lk_raw_records_share and the two records of a put
  * have to differ, and what lk_raw_records_list writes has to lie apart: both rows and the count. */
 int32_t lk_raw_records_new(uint32_t callers, uint64_t words, lk_records_try *first);
+int32_t lk_raw_records_new_with_seed(uint32_t callers, uint64_t words, uint64_t seed, lk_records_try *first);
 int32_t lk_raw_records_share(uint64_t words, lk_records_try *from, lk_records_try *next);
 int32_t lk_raw_records_put(lk_records_try *table, uint64_t key, const lk_record *value, lk_record *old);
 int32_t lk_raw_records_put_absent(lk_records_try *table, uint64_t key, const lk_record *value, lk_record *old);
@@ -592,9 +601,13 @@ static inline int lk_record_of(const uint64_t *words, size_t count, lk_record *v
     return LK_OK;
 }
 
-/* As lk_table_new_try and lk_table_share_try. */
+/* As lk_table_new_try, lk_table_new_with_seed_try and lk_table_share_try. */
 static inline int lk_records_new_try(uint32_t callers, uint64_t words, lk_records_try *first) {
     return first ? lk_raw_records_new(callers, words, first) : LK_NULL;
+}
+
+static inline int lk_records_new_with_seed_try(uint32_t callers, uint64_t words, uint64_t seed, lk_records_try *first) {
+    return first ? lk_raw_records_new_with_seed(callers, words, seed, first) : LK_NULL;
 }
 
 static inline int lk_records_share_try(lk_records_try *from, uint64_t words, lk_records_try *next) {

@@ -2,6 +2,8 @@
 
 #![forbid(unsafe_code)]
 
+use rattle_std::simd::prelude::*;
+
 /// How many bytes are looked at together.
 const BLOCK: usize = 64;
 
@@ -41,27 +43,35 @@ fn by_words(needle: u8, haystack: &[u8]) -> Option<usize> {
     Some(haystack.len() - rest.len() + found)
 }
 
+/// The first place of a byte in a block, if it is there.
+#[inline(always)]
+fn in_block(needle: u8, block: &[u8; BLOCK]) -> Option<usize> {
+    let mask = u8x64::from_array(*block).simd_eq(u8x64::splat(needle)).to_bitmask();
+    (mask != 0).then(|| mask.trailing_zeros() as usize)
+}
+
 /// The first place of a byte from a place on, a block at a time.
 #[inline(never)]
 fn by_blocks(needle: u8, haystack: &[u8], from: usize) -> Option<usize> {
     let (blocks, rest) = haystack[from..].as_chunks::<BLOCK>();
     for (at, block) in blocks.iter().enumerate() {
         if has(block, |byte| byte == needle) {
-            return by_words(needle, block).map(|found| from + BLOCK * at + found);
+            return in_block(needle, block).map(|found| from + BLOCK * at + found);
         }
     }
     by_words(needle, rest).map(|found| haystack.len() - rest.len() + found)
 }
 
 /// The first place at which a byte stands, if it stands anywhere: exactly what
-/// `haystack.iter().position(|b| *b == needle)` answers. Most callers find it near, so the first block is looked at word by
-/// word.
+/// `haystack.iter().position(|b| *b == needle)` answers. Most callers find it near, so the first block is looked at by itself.
 #[inline]
 pub fn memchr(needle: u8, haystack: &[u8]) -> Option<usize> {
-    let near = haystack.len().min(BLOCK);
-    match by_words(needle, &haystack[..near]) {
+    let Some(near) = haystack.first_chunk::<BLOCK>() else {
+        return by_words(needle, haystack);
+    };
+    match in_block(needle, near) {
         Some(at) => Some(at),
-        None => by_blocks(needle, haystack, near),
+        None => by_blocks(needle, haystack, BLOCK),
     }
 }
 

@@ -5,13 +5,19 @@
 use crate::alloc::{AllocError, Global};
 use crate::vec::Vec;
 use std::marker::PhantomData;
+use std::num::NonZeroUsize;
 use std::sync::{Arc, Condvar, Mutex};
-use std::{panic, thread};
+use std::{io, panic, thread};
 
 /// The leave to start threads and to join them.
 pub trait Threads {}
 
 impl<R: Threads> Threads for &R {}
+
+/// The processors that this process may use, within the quota of its container.
+pub fn available_parallelism<R: Threads>(_rt: &R) -> io::Result<NonZeroUsize> {
+    thread::available_parallelism()
+}
 
 /// A place from which one of two threads takes a value: a job that is taken by the new thread, or by the caller again.
 type Slot<T> = Mutex<Option<T>>;
