@@ -1,7 +1,8 @@
 #!/usr/bin/env python3
 """Times pargather, parstream and other programs on the same query, and checks each answer.
 
-usage: compare.py [--files a,b,c,d] [--times 5] [--workers 0,1,2,4] [--plans gather] [--only NAME,..] [--save FILE.json]
+usage: compare.py [--files a,b,c,d] [--times 5] [--workers 0,1,2,4] [--plans gather] [--only NAME,..] [--cargo FOLDER]
+                  [--save FILE.json]
 
 Each program runs once before any runs a second time, so that what else the machine does falls on all alike: trust the
 ratios of one run, not its seconds. A program whose first run takes more than 12 s runs once. What each wrote is compared
@@ -17,7 +18,8 @@ to the best wall time over that of the fastest peer that parses quotes and answe
 
 The files (files.py), the straight Rust program (baseline.rs, by rustc) and what the programs write lie in BENCH_DIR, or
 /tmp/lembokuj-bench. The programs are crates/pargather/out/pargather and crates/parstream/out/parstream, as `.ci/run` or
-`examples/run` leaves them, or the paths in PARGATHER and PARSTREAM. Programs that are not installed are left out; `clickhouse.sh start` starts a server of Debian's package.
+`examples/run` leaves them, or the paths in PARGATHER and PARSTREAM; `--cargo FOLDER` adds what cargo built of the same sources
+(the `bin` of `bindings/build`). Programs that are not installed are left out; `clickhouse.sh start` starts a server of Debian's package.
 """
 import argparse
 import csv
@@ -183,6 +185,7 @@ def arguments():
     parser.add_argument("--workers", default="0,1,2,4")
     parser.add_argument("--plans", default="gather")
     parser.add_argument("--only", help="the programs whose names begin with one of these")
+    parser.add_argument("--cargo", help="the folder of our programs as cargo builds them")
     parser.add_argument("--save", help="a file for all runs, from which plot.py draws")
     return parser.parse_args()
 
@@ -201,7 +204,7 @@ def main():
         file = FILES[name]
         if name in LONG and not os.path.exists(file.path):
             files.make_long(f"{FOLDER}/data")
-        listed = programs(file, pargather, parstream, asked.workers.split(","), asked.plans.split(","))
+        listed = programs(file, pargather, parstream, asked.workers.split(","), asked.plans.split(","), asked.cargo)
         if asked.only:
             listed = [p for p in listed if p.name.startswith(tuple(asked.only.split(",")))]
         runs, wrong = measure(file, listed, asked.times)

@@ -82,15 +82,15 @@ def counted(count, word):
     return f"{count} {word}" if count == 1 else f"{count} {word}s"
 
 
-def ours(file, pargather, parstream, workers, plans):
+def ours(file, pargather, parstream, workers, plans, build=""):
     value = file.value
     items = f"count,sum:{value},min:{value},max:{value},avg:{value}"
     words = ["--group", ",".join(file.keys), "--agg", items]
     for plan in [] if file.name in LONG else plans:
         for count in workers:
-            yield f"pargather, {plan}, {counted(int(count), 'worker')}", [pargather, *words, "--plan", plan, "--workers", str(count)]
+            yield f"pargather{build}, {plan}, {counted(int(count), 'worker')}", [pargather, *words, "--plan", plan, "--workers", str(count)]
     for count in workers:
-        yield f"parstream, {counted(int(count), 'worker')}", [parstream, *words, "--workers", str(count)]
+        yield f"parstream{build}, {counted(int(count), 'worker')}", [parstream, *words, "--workers", str(count)]
 
 
 def sql(file, table):
@@ -146,8 +146,8 @@ def clickhouse_server():
         return 0
 
 
-def programs(file, pargather, parstream, workers, plans):
-    """All programs that are there, each with its command for this file."""
+def programs(file, pargather, parstream, workers, plans, by_cargo=None):
+    """All programs that are there, each with its command for this file. by_cargo: the folder of our programs as cargo builds them."""
     listed = []
 
     def add(name, command, kind="peer", path=file.path, server=0):
@@ -156,6 +156,9 @@ def programs(file, pargather, parstream, workers, plans):
 
     for name, words in ours(file, pargather, parstream, workers, plans):
         add(name, words, "ours")
+    if by_cargo:
+        for name, words in ours(file, f"{by_cargo}/pargather", f"{by_cargo}/parstream", workers, plans, " by cargo"):
+            add(name, words, "ours")
     for threads in (1, 4):
         words = [f"{FOLDER}/baseline", ",".join(file.keys), file.value, str(threads)]
         add(f"straight Rust, {counted(threads, 'thread')}", words, "limit")
