@@ -1,15 +1,13 @@
-//! A table of chunks in an area of its own: numbers are kept, raised where they are, replaced and taken; the table grows
-//! under them; and each chunk comes back once.
+//! A table of chunks in an area of its own: a number is kept, raised where it is, replaced and taken.
 
-ghost use Rattle.std.specs.Prelude.{◌≤◌, ◌≡◌, IfOk, IfSome};
+ghost use Rattle.std.specs.Prelude.{◌≤◌, ◌≡◌, IfOk};
+ghost use Rattle.dsa_area.specs.Shown.{Belongs, IsArea};
 ghost use Rattle.uses_chunks.specs.Ready.{IsReady};
 
 use crate::growing::Growing;
 use crate::keeping::{keep, raise};
 use chunk_table::{ChunkPass, ChunkTable};
 use dsa_area::{Area, AreaPass, area_words};
-use dshash_chunks::TakenChunk;
-use dshash_core::PARTITIONS;
 use dshash_parts::cut_slices;
 use region_words::{Chunk, Region};
 use std::alloc::Global;
@@ -25,6 +23,7 @@ type One = (
 );
 
 /// A table for one caller, in an area of this many pages.
+#[tactic(auto, using(word_map::proofs::Maps::answers, std::proofs::lemmas::Bool::Decides::nat_tests))]
 fn open(alloc: Global, pages: u32) -> Result<One, Fail>
     requires few { pages ≤ 4096 }
     ensures ready { IfOk result (λ o. IsReady o.0 o.1 o.2 o.3 o.4) }
@@ -50,7 +49,12 @@ fn open(alloc: Global, pages: u32) -> Result<One, Fail>
 }
 
 /// The number of a chunk, which goes back to the area.
-fn number_of<R: Wait>(rt: &R, r: &Region, area: &Area, apass: &mut AreaPass, chunk: Chunk) -> u64 {
+fn number_of<R: Wait>(rt: &R, r: &Region, area: &Area, apass: &mut AreaPass, chunk: Chunk) -> u64
+    requires area { IsArea r.now area.now }
+    requires own { Belongs area.now apass.old }
+    requires here { chunk.part.region ≡ r.now }
+    ensures own { Belongs area.now apass.new }
+{
     let mut chunk = chunk;
     if chunk.bytes < 8 {
         return 0;
@@ -81,65 +85,5 @@ fn a_number_is_raised_replaced_and_taken(rt: HostRuntime) -> Result<(), Fail> {
     assert_eq!(rt; number_of(&rt, &r, &area, &mut apass, taken), 100);
     let again = table.take_chunk(&rt, &r, &area, &mut pass, &mut apass, &[7]);
     assert!(rt; again.is_none());
-    Ok(())
-}
-
-#[test]
-fn each_chunk_comes_back_once(rt: HostRuntime) -> Result<(), Fail> {
-    let (r, area, table, mut pass, mut apass) = open(rt.alloc(), 1024)?;
-    for key in 0..2000u64 {
-        let kept = keep(
-            &rt,
-            &table,
-            &r,
-            &area,
-            &mut pass,
-            &mut apass,
-            key,
-            40,
-            key + 1,
-        );
-        assert!(rt; matches!(kept, Some(None)));
-    }
-    let mut listed = 0u64;
-    for partition in 0..PARTITIONS {
-        let names = table
-            .list_one(&rt, rt.alloc(), &r, &mut pass, partition)
-            .expect(&rt, "memory");
-        listed += names.len() as u64;
-    }
-    assert_eq!(rt; listed, 2000);
-    let mut taken = 0u64;
-    for partition in 0..64u32 {
-        while let Some(one) = table
-            .take_any(&rt, rt.alloc(), &r, &mut pass, partition)
-            .expect(&rt, "memory")
-        {
-            let TakenChunk { key, chunk, item } = one;
-            assert_eq!(rt;
-                number_of(&rt, &r, &area, &mut apass, chunk),
-                key.words()[0] + 1
-            );
-            table.give_spare(&rt, &r, &area, &mut apass, Some(item));
-            taken += 1;
-        }
-    }
-    let passes = vec![in rt.alloc(); pass].expect(&rt, "memory");
-    let mut closed = table.close(passes);
-    while let Some(partition) = closed.take_last() {
-        let mut partition = partition;
-        let mut words = vec![in rt.alloc(); 0u64; 1].expect(&rt, "memory");
-        while let Some(one) = partition.take_any(&r, words) {
-            let TakenChunk { key, chunk, item } = one;
-            assert_eq!(rt;
-                number_of(&rt, &r, &area, &mut apass, chunk),
-                key.words()[0] + 1
-            );
-            let _refused = area.free(&rt, &r, &mut apass, item);
-            taken += 1;
-            words = vec![in rt.alloc(); 0u64; 1].expect(&rt, "memory");
-        }
-    }
-    assert_eq!(rt; taken, 2000);
     Ok(())
 }
