@@ -75,12 +75,12 @@ class Cuts(unittest.TestCase):
     def test_tests_of_callers_stay(self):
         text = (
             "#[cfg(test)]\nmod tests;\n#[test]\n#[tactic(auto)]\nfn f(\n    rt: HostRuntime,\n) -> Result<(), Fail>\n    ensures { x }\n{\n"
-            '    assert_eq!(rt; g(rt.alloc())?, 1);\n    h().expect(&rt, "h");\n    Ok(())\n}\n#[test]\nfn g() {}'
+            '    assert_eq!(rt; g(rt.alloc())?, 1);\n    h().expect(&rt, "h");\n    k(&rt).expect(rt, "k");\n    Ok(())\n}\n#[test]\nfn g() {}'
         )
         want = (
             "#[cfg(test)]\nmod tests;\n#[test]\nfn f(\n)\n{ let rt = rattle_std::HostRuntime::new(); "
             "rattle_std::test::Passes::passes((move || -> Result<(),Fail> {\n"
-            '    assert_eq!( g(rt.alloc())?, 1);\n    h().expect( "h");\n    Ok(())\n})()) }\n#[test]\n'
+            '    assert_eq!( g(rt.alloc())?, 1);\n    h().expect( "h");\n    k(&rt).expect( "k");\n    Ok(())\n})()) }\n#[test]\n'
             "fn g() { rattle_std::test::Passes::passes((move ||  {})()) }"
         )
         self.assertEqual(erased(text, "uses_some"), want)
