@@ -5,3 +5,4 @@ pub mod Listed
 pub mod Stores
 pub mod Used
 pub mod Widths
+pub mod Probes

@@ -18,13 +18,13 @@ ghost use Rattle.hash_join.specs.Used.{IsShared};
 ghost use Rattle.hash_join.specs.Widths.{key_words};
 
 use crate::filling::{Filler, fill};
+use crate::probe::Probe;
 use crate::store::{Passes, Store, open_store};
 use crate::widths::count_words;
 use csv_rows::RowStore;
 use dsa_area::AreaPass;
-use dshash_core::Entry;
 use dshash_parts::{ClosedTable, DsPass};
-use dshash_scan::list_all;
+use frozen_table::{FrozenTable, take_all};
 use join_pairs::{Chains, LastRow, Link, chain_all};
 use row_blocks::count_blocks;
 use scan_claim::{ClaimSeat, Claims, Drawn};
@@ -38,6 +38,10 @@ use std::thread::{Threads, for_each_mut};
 pub(crate) struct Gathered {
     /// The chains of all left rows.
     pub(crate) chains: Chains,
+    /// The last rows of the keys that the table took.
+    pub(crate) frozen: FrozenTable<LastRow>,
+    /// The words of a key of the table.
+    pub(crate) key_words: u32,
     /// Which participant drew which blocks.
     pub(crate) drawn: Drawn,
     /// The table, which is closed.
@@ -69,11 +73,12 @@ pub(crate) struct Home {
     pub(crate) spilled: Vec<Vec<u64>>,
 }
 
-/// A table that was closed, and the last row of each key in it.
+/// A table that was closed, and its partitions, frozen.
 #[derive(Drop)]
-struct Listed {
+struct Ended {
     table: ClosedTable<LastRow>,
-    entries: Vec<Entry<LastRow>>,
+    frozen: FrozenTable<LastRow>,
+    key_words: u32,
 }
 
 /// The participants, each with its tokens, which have done nothing yet.
@@ -199,46 +204,29 @@ fn bring_home(alloc: Global, fillers: Vec<Filler>) -> Result<Home, AllocError>
     Ok(home)
 }
 
-/// One pass sees what all others have seen.
-fn meet_others(store: &Store, leader: &mut DsPass<LastRow>, others: &mut [DsPass<LastRow>])
-    requires own { Belongs store.now.table leader.old }
-    requires others { All (Belongs store.now.table) others.old }
-    ensures own { Belongs store.now.table leader.new }
-    ensures caller { number_of leader.new ≡ number_of leader.old }
-    ensures mine { (i : ℕ) → mine_of leader.new i ≡ mine_of leader.old i }
-    ensures met { AllZip (HasMet store.now leader.new) others.old others.new }
+/// Ends the table, and freezes what it has.
+fn freeze_table(
+    alloc: Global,
+    store: Store,
+    tables: Vec<DsPass<LastRow>>,
+) -> Result<Ended, AllocError>
+    requires store { IsStore store }
+    requires tables { AreAll store.table tables.items }
 {
-    for other in others.iter_mut() {
-        store.table.meet(leader, other);
+    let mut table = store.table.close(tables);
+    let partitions = take_all(alloc, &mut table)?;
+    match FrozenTable::freeze(alloc, &store.region, partitions) {
+        Ok(frozen) => Ok(Ended {
+            table,
+            frozen,
+            key_words: store.key_words,
+        }),
+        Err(_) => Err(AllocError),
     }
 }
 
-/// Ends the table, after all its entries were listed by one that had seen all of it.
-fn close_table<R: Wait>(
-    rt: &R,
-    alloc: Global,
-    store: Store,
-    mut tables: Vec<DsPass<LastRow>>,
-) -> Result<Listed, AllocError>
-    requires store { IsStore store }
-    requires tables { AreAll store.table tables.items }
-    requires some { 0 < length tables.items }
-    ensures closed { IfOk result (λ l. IsClosed tables.items (whole_of l.table) (entries_of l.entries.items)) }
-{
-    let Some((leader, others)) = tables.as_mut_slice().split_first_mut() else {
-        unreachable!()
-    };
-    meet_others(&store, leader, others);
-    let entries = list_all(rt, alloc, &store.table, &store.region, leader)?;
-    Ok(Listed {
-        table: store.table.close(tables),
-        entries,
-    })
-}
-
 /// What the participants brought home comes to.
-fn end_round<R: Wait>(
-    rt: &R,
+fn end_round(
     alloc: Global,
     rows: &RowStore,
     column: u32,
@@ -264,10 +252,17 @@ fn end_round<R: Wait>(
         spilled,
     } = home;
     let drawn = claims.close(seats);
-    let Listed { table, entries } = close_table(rt, alloc, store, tables)?;
-    let chains = chain_all(alloc, rows, column, &entries, &links, &spilled)?;
+    let Ended {
+        table,
+        frozen,
+        key_words,
+    } = freeze_table(alloc, store, tables)?;
+    let probe = Probe::of(frozen.lookup(), key_words);
+    let chains = chain_all(alloc, rows, column, &probe, &links, &spilled)?;
     Ok(Gathered {
         chains,
+        frozen,
+        key_words,
         drawn,
         table,
         areas,
@@ -296,5 +291,5 @@ pub(crate) fn gather_rows<R: Threads + Wait + Sync>(
     } = open_round(alloc, rows, column, callers)?;
     fill_all(rt, &store, rows, column, &claims, &mut fillers);
     let home = bring_home(alloc, fillers)?;
-    end_round(rt, alloc, rows, column, store, claims, home)
+    end_round(alloc, rows, column, store, claims, home)
 }

@@ -19,6 +19,7 @@ use csv_rows::RowStore;
 use dsa_area::AreaPass;
 use dshash_parts::ClosedTable;
 use gathering::gather_rows;
+use probe::Probe;
 use join_pairs::{NoPairs, find_pairs, first_refused};
 use scan_claim::Drawn;
 use std::alloc::Global;
@@ -27,6 +28,7 @@ use std::thread::Threads;
 
 mod filling;
 mod gathering;
+mod probe;
 mod store;
 mod widths;
 
@@ -99,7 +101,8 @@ pub fn join<R: Threads + Wait + Sync>(
     let Ok(gathered) = gather_rows(rt, alloc, left, left_column, callers) else {
         return Err(JoinAnswer::Memory);
     };
-    match find_pairs(rt, alloc, &gathered.chains, right, right_column, callers) {
+    let probe = Probe::of(gathered.frozen.lookup(), gathered.key_words);
+    match find_pairs(rt, alloc, &probe, &gathered.chains, right, right_column, callers) {
         Ok(pairs) => Ok(Joined {
             pairs,
             drawn: gathered.drawn,

@@ -9,7 +9,7 @@ ghost use Rattle.row_blocks.specs.Blocks.{numbers_of};
 use csv_rows::{RowStore, rows};
 use dshash_core::CellObject;
 use join_pairs::{
-    Chains, LastRow, NoPairs, Pairs, cells_are_chains, chain_all, find_pairs, first_refused,
+    Chains, LastRow, NoPairs, NoTable, Pairs, cells_are_chains, chain_all, find_pairs, first_refused,
     pairs_are_join,
 };
 use std::alloc::{AllocError, Global};
@@ -44,7 +44,7 @@ fn chains_alone(alloc: Global, rows: &RowStore, column: u32) -> Result<Chains, A
         alloc,
         rows,
         column,
-        &Vec::new(alloc),
+        &NoTable,
         &Vec::new(alloc),
         &spilled,
     )
@@ -67,7 +67,7 @@ fn pairs_alone<R: Threads + Wait + Sync>(
     ensures { IfOk result (λ pairs. pairs ≡ pairs_of left.now right.now columns.0 columns.1) }
 {
     match chains_alone(alloc, left, columns.0) {
-        Ok(chains) => find_pairs(rt, alloc, &chains, right, columns.1, callers),
+        Ok(chains) => find_pairs(rt, alloc, &NoTable, &chains, right, columns.1, callers),
         Err(_) => Err(NoPairs::Memory),
     }
 }
