@@ -1,1 +1,2 @@
 mod Grows
+mod Numbered

@@ -1,4 +1,4 @@
-use Rattle.std.proofs.Common.{◌≡◌, ℕ, ◌+◌, ◌/◌, ◌%◌, ◌^◌, ◌<◌, refl, ap, ◌∙◌, arith}
+use Rattle.std.proofs.Common.{ℕ, ◌+◌, ◌/◌, ◌%◌, ◌^◌, ◌<◌, refl, ap, ◌∙◌, arith}
 use Rattle.std.specs.FinMap as fin
 use Rattle.dshash_core.specs.Chains.{word, words_at}
 use Rattle.uses_chunks.proofs.Grows.{grows}
