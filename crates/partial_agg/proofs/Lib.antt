@@ -8,6 +8,7 @@ pub mod Placed
 pub mod Grouped
 pub mod OneRow
 pub mod Blocks
+pub mod Cursor
 pub mod Ideal
 pub mod Fits
 pub mod Entries

@@ -10,4 +10,5 @@ pub mod Lanes
 pub mod Items
 pub mod Fitting
 pub mod Blocks
+pub mod Cursor
 pub mod Laws

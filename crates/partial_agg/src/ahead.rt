@@ -42,6 +42,11 @@ pub(crate) struct Clues {
     guesses: [usize; MOST_ROWS],
 }
 
+/// Whether there are so many keys that a look-up waits for far memory.
+pub(crate) fn are_far(keys: &KeyTable) -> bool {
+    keys.len() >= FEWEST_KEYS
+}
+
 /// Looks for the keys of this many rows, if they are looked for ahead.
 #[inline(never)]
 pub(crate) fn look_ahead(
@@ -59,7 +64,7 @@ pub(crate) fn look_ahead(
     requires columns { HasColumns plan.now width }
     ensures { IfSome result (λ clues. AreHashed plan.now width rows.now first count clues.hashes) }
 {
-    if keys.len() < FEWEST_KEYS {
+    if !are_far(keys) {
         return None;
     }
     let mut lasts = [0; MOST_ROWS];

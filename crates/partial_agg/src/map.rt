@@ -3,13 +3,14 @@
 //! It has three parts. `keys` finds the place of a key by its hash; `states` has the state of each key, one after the
 //! other in the order in which the keys came; `left` has the places of the groups that are in the map, and is put in
 //! the order of their keys, the greatest first, when the first group is asked for. So a row of a group that is there
-//! costs one look-up and changes its state in place, and the order is made once.
+//! costs one look-up and changes its state in place, and the order is made once. Rows of groups that are there are added
+//! in runs (`run`); the row at which a run ends is then added by itself.
 //!
 //! `take_first` takes the last place out of `left`, and leaves the key and its state where they are, until no place is
 //! left. A key that comes again after that gets its old place back. While no key was taken, each key that is found is
 //! in the map.
 
-ghost use Rattle.std.specs.Prelude.{◌≡◌, ◌<◌, ◌≤◌, ◌+◌, ◌*◌, ◌^◌, ◌∷◌, ◌++◌, ◌↔◌, [], ℕ, List, Contains, IsTrue, true, false, IfOk, IfErr, IfSome, IfNone, OnOk, OnErr, None, Some, All, get_or, length, map as map_list, reverse, set, take};
+ghost use Rattle.std.specs.Prelude.{◌≡◌, ◌<◌, ◌≤◌, ◌+◌, ◌*◌, ◌^◌, ◌∷◌, ◌++◌, ◌↔◌, [], ℕ, List, Contains, IsTrue, true, false, IfOk, IfErr, IfSome, IfNone, Ok, OnOk, OnErr, None, Some, All, drop, get_or, length, map as map_list, reverse, set, take};
 ghost use Rattle.std.specs.FinMap as map;
 ghost use Rattle.std.specs.List.{position_from};
 ghost use Rattle.std.specs.List.Sorted.{IsPermutation, IsSorted};
@@ -19,8 +20,9 @@ ghost use Rattle.csv_rows.specs.Records.{record_at};
 ghost use Rattle.par_model.specs.Plan.{Plan};
 ghost use Rattle.par_model.specs.Columns.{HasColumns};
 ghost use Rattle.par_model.specs.declared.refusal.TheConstants.{LONGEST_KEY};
-ghost use Rattle.partial_agg.specs.Blocks.{ExplainsRow, Stopped};
-ghost use Rattle.partial_agg.specs.Groups.{AreGroups, added, with_rows};
+ghost use Rattle.partial_agg.specs.Blocks.{AddedFirst, ExplainsRow, Stopped};
+ghost use Rattle.partial_agg.specs.Cursor.{AddedSome, SomeRefused};
+ghost use Rattle.partial_agg.specs.Groups.{AreGroups, GroupsByKey, added, with_rows};
 ghost use Rattle.partial_agg.specs.Listed.{listed};
 ghost use Rattle.par_model.specs.Refuse.{is_unreadable};
 ghost use Rattle.partial_agg.specs.Items.{items_state};
@@ -30,14 +32,15 @@ ghost use Rattle.partial_agg.specs.Status.{AreHashed, IsHashOf, IsKeptBy};
 ghost use Rattle.partial_agg.specs.Rows.{IsAccepted, header_width};
 ghost use Rattle.row_blocks.specs.Blocks.{block_rows};
 
-use crate::ahead::{Clue, Clues, NO_GUESS, clue_at, clue_or_hash, look_ahead};
+use crate::ahead::{Clue, Clues, NO_GUESS, are_far, clue_at, clue_or_hash, look_ahead};
+use crate::fields::{RowCursor, RowFields};
 use crate::groups::Groups;
 use crate::key::GroupKey;
 use crate::lent::LentGroups;
 use crate::row::{RowBuffer, RowStatus, read_values};
 use crate::state::one_row;
 use crate::states::StateList;
-use csv_rows::{NearRows, Record, RowStore};
+use csv_rows::{NearRows, RowStore};
 use key_index::{KeyTable, hash_of};
 use par_model::{AggState, BoundPlan, ITEM_CAUSE};
 use row_blocks::BLOCK_ROWS;
@@ -238,15 +241,130 @@ impl GroupMap {
         let width = rows.width(0);
         let clues = self.look_ahead(&near, first, count, width, plan);
         let mut buffer = RowBuffer::new();
-        for at in 0..count {
+        let mut at = self.add_near(&mut buffer, &near, block, 0, count, width, plan);
+        'rows: while at < count {
             let number = first + at;
             let clue = clue_at(&clues, at);
             match self.add_read(&mut buffer, clue, number, &near.find(number), width, plan) {
                 Ok(()) => {}
                 Err(answer) => return Err(answer),
             }
+            at = self.add_near(&mut buffer, &near, block, at + 1, count, width, plan);
         }
         Ok(())
+    }
+
+    /// Adds the rows that a cursor has left, but for those that the filters leave out, and gives their number. The width
+    /// is that of the table's header. Each row is read once; the time for it is that of a look-up. An answer that names
+    /// a row names row 1, since a cursor does not count. After an `Err` the map can only be dropped.
+    pub fn add_left<C: RowCursor>(
+        &mut self,
+        cursor: &mut C,
+        width: u32,
+        plan: &BoundPlan,
+    ) -> Result<u64, BlockAnswer>
+        requires widest { width ≤ C.widest }
+        requires few { length (C.left cursor.old) < 2 ^ 64 }
+        requires columns { HasColumns plan.now width }
+        ensures added { OnOk result (self.new ≡ with_rows plan.now self.old (C.left cursor.old)) }
+        ensures accepted { OnOk result (All (IsAccepted plan.now width) (C.left cursor.old)) }
+        ensures count { IfOk result (λ count. count ≡ length (C.left cursor.old)) }
+        ensures refused { IfErr result (SomeRefused plan.now width (C.left cursor.old)) }
+    {
+        let mut buffer = RowBuffer::new();
+        let mut count = 0;
+        'rows: while self.add_next(&mut buffer, cursor, &mut count, width, plan)? {
+            self.fit_at(count, plan);
+            self.add_fields(&mut buffer, cursor, width, plan)?;
+            count += 1;
+        }
+        Ok(count)
+    }
+
+    /// Adds a row, if the filters don't leave it out. The width is that of the header of its table. An answer that names
+    /// it names it as row 1. The row is read once; the time is that of a look-up.
+    #[inline(always)]
+    pub fn add_fields<F: RowFields>(
+        &mut self,
+        buffer: &mut RowBuffer,
+        row: &F,
+        width: u32,
+        plan: &BoundPlan,
+    ) -> Result<(), BlockAnswer>
+        requires columns { HasColumns plan.now width }
+        ensures added { OnOk result (self.new ≡ with_rows plan.now self.old (F.fields row.now ∷ [])) }
+        ensures accepted { OnOk result (IsAccepted plan.now width (F.fields row.now)) }
+        ensures stopped { IfErr result (ExplainsRow plan.now width (F.fields row.now) 1) }
+        ensures err { OnErr result (self.new ≡ self.old) }
+    {
+        self.add_read(buffer, None, 1, row, width, plan)
+    }
+
+    /// Finds whether the states fit the plan's rows, if 256 rows were added since it was found, or none.
+    fn fit_at(&mut self, count: u64, plan: &BoundPlan)
+        ensures { self.new ≡ self.old }
+    {
+        if count % BLOCK_ROWS == 0 {
+            self.states.fit(plan.items());
+        }
+    }
+
+    /// Adds rows of a block from a place on, as long as they are of groups that are there and near, and gives the place
+    /// of the first that it doesn't add.
+    fn add_near(
+        &mut self,
+        buffer: &mut RowBuffer,
+        rows: &NearRows<'_>,
+        block: u64,
+        from: u64,
+        count: u64,
+        width: u32,
+        plan: &BoundPlan,
+    ) -> u64
+        requires order { from ≤ count }
+        requires few { count ≤ 256 }
+        requires rows { 256 * block + 1 + count ≤ length rows.now }
+        requires fits { 256 * block + 1 + count < 2 ^ 64 }
+        requires width { width ≡ header_width rows.now }
+        requires columns { HasColumns plan.now width }
+        ensures from { from ≤ result }
+        ensures within { result ≤ count }
+        ensures added { (start : GroupsByKey) → AddedFirst plan.now rows.now block from start self.old → AddedFirst plan.now rows.now block result start self.new }
+    {
+        if !self.whole || are_far(&self.keys) {
+            return from;
+        }
+        self.states
+            .add_near(&self.keys, buffer, rows, block, from, count, width, plan)
+    }
+
+    /// Adds rows that a cursor has left, as long as they are of groups that are there, and counts them. Returns whether
+    /// it stopped at a row, which is the cursor's and is not added.
+    #[inline(always)]
+    fn add_next<C: RowCursor>(
+        &mut self,
+        buffer: &mut RowBuffer,
+        cursor: &mut C,
+        count: &mut u64,
+        width: u32,
+        plan: &BoundPlan,
+    ) -> Result<bool, BlockAnswer>
+        requires widest { width ≤ C.widest }
+        requires few { count.old + length (C.left cursor.old) < 2 ^ 64 }
+        requires columns { HasColumns plan.now width }
+        ensures rises { count.old ≤ count.new }
+        ensures few { result ≡ Ok true → count.new + (1 + length (C.left cursor.new)) ≡ count.old + length (C.left cursor.old) }
+        ensures stopped { result ≡ Ok true → (start : GroupsByKey) (all : List (List (List ℕ))) → AddedSome plan.now width all count.old (C.left cursor.old) start self.old
+            → AddedSome plan.now width all count.new (C.fields cursor.new ∷ C.left cursor.new) start self.new }
+        ensures ended { result ≡ Ok false → (start : GroupsByKey) (all : List (List (List ℕ))) → AddedSome plan.now width all count.old (C.left cursor.old) start self.old
+            → AddedSome plan.now width all count.new [] start self.new }
+        ensures refused { IfErr result (λ why. (all : List (List (List ℕ))) → C.left cursor.old ≡ drop count.old all → SomeRefused plan.now width all why) }
+    {
+        if !self.whole {
+            return cursor.next_row(width);
+        }
+        self.states
+            .add_next(&self.keys, buffer, cursor, count, width, plan)
     }
 
     /// Does what is done once for this many rows: the look-ahead, and finding whether the states fit the plan's rows.
@@ -270,20 +388,20 @@ impl GroupMap {
     }
 
     /// Reads a row, to whose key there may be a clue, and adds it if it is kept.
-    fn add_read(
+    fn add_read<F: RowFields>(
         &mut self,
         buffer: &mut RowBuffer,
         clue: Option<Clue>,
         number: u64,
-        row: &Record<'_>,
+        row: &F,
         width: u32,
         plan: &BoundPlan,
     ) -> Result<(), BlockAnswer>
         requires columns { HasColumns plan.now width }
-        requires hashed { IfSome clue (λ clue. IsHashOf plan.now width row.now clue.hash) }
-        ensures added { OnOk result (self.new ≡ with_rows plan.now self.old (row.now ∷ [])) }
-        ensures accepted { OnOk result (IsAccepted plan.now width row.now) }
-        ensures stopped { IfErr result (ExplainsRow plan.now width row.now number) }
+        requires hashed { IfSome clue (λ clue. IsHashOf plan.now width (F.fields row.now) clue.hash) }
+        ensures added { OnOk result (self.new ≡ with_rows plan.now self.old (F.fields row.now ∷ [])) }
+        ensures accepted { OnOk result (IsAccepted plan.now width (F.fields row.now)) }
+        ensures stopped { IfErr result (ExplainsRow plan.now width (F.fields row.now) number) }
         ensures err { OnErr result (self.new ≡ self.old) }
     {
         match buffer.read_key(row, width, plan) {
@@ -302,21 +420,21 @@ impl GroupMap {
 
     /// Adds a row whose key is read and hashed. A row of a group that is there is mostly read only as far as the lanes
     /// of its state need.
-    fn add_kept(
+    fn add_kept<F: RowFields>(
         &mut self,
         buffer: &mut RowBuffer,
         clue: Clue,
         number: u64,
-        row: &Record<'_>,
+        row: &F,
         width: u32,
         plan: &BoundPlan,
     ) -> Result<(), BlockAnswer>
         requires columns { HasColumns plan.now width }
-        requires kept { IsKeptBy plan.now width row.now buffer.old.key }
+        requires kept { IsKeptBy plan.now width (F.fields row.now) buffer.old.key }
         requires hashed { clue.hash ≡ key_hash buffer.old.key }
-        ensures added { OnOk result (self.new ≡ with_rows plan.now self.old (row.now ∷ [])) }
-        ensures accepted { OnOk result (IsAccepted plan.now width row.now) }
-        ensures stopped { IfErr result (ExplainsRow plan.now width row.now number) }
+        ensures added { OnOk result (self.new ≡ with_rows plan.now self.old (F.fields row.now ∷ [])) }
+        ensures accepted { OnOk result (IsAccepted plan.now width (F.fields row.now)) }
+        ensures stopped { IfErr result (ExplainsRow plan.now width (F.fields row.now) number) }
         ensures err { OnErr result (self.new ≡ self.old) }
     {
         match self
@@ -331,21 +449,21 @@ impl GroupMap {
     }
 
     /// Adds a row, whose key is read and hashed, of a group that may not be there.
-    fn add_other(
+    fn add_other<F: RowFields>(
         &mut self,
         buffer: &mut RowBuffer,
         hash: u64,
         number: u64,
-        row: &Record<'_>,
+        row: &F,
         width: u32,
         plan: &BoundPlan,
     ) -> Result<(), BlockAnswer>
         requires columns { HasColumns plan.now width }
-        requires kept { IsKeptBy plan.now width row.now buffer.old.key }
+        requires kept { IsKeptBy plan.now width (F.fields row.now) buffer.old.key }
         requires hashed { hash ≡ key_hash buffer.old.key }
-        ensures added { OnOk result (self.new ≡ with_rows plan.now self.old (row.now ∷ [])) }
-        ensures accepted { OnOk result (IsAccepted plan.now width row.now) }
-        ensures stopped { IfErr result (ExplainsRow plan.now width row.now number) }
+        ensures added { OnOk result (self.new ≡ with_rows plan.now self.old (F.fields row.now ∷ [])) }
+        ensures accepted { OnOk result (IsAccepted plan.now width (F.fields row.now)) }
+        ensures stopped { IfErr result (ExplainsRow plan.now width (F.fields row.now) number) }
         ensures err { OnErr result (self.new ≡ self.old) }
     {
         match read_kept(buffer, number, row, width, plan) {
@@ -399,19 +517,19 @@ impl GroupMap {
 }
 
 /// Reads the values of a row that is kept. A refusal names the row by this number.
-fn read_kept(
+fn read_kept<F: RowFields>(
     buffer: &mut RowBuffer,
     number: u64,
-    row: &Record<'_>,
+    row: &F,
     width: u32,
     plan: &BoundPlan,
 ) -> Result<(), BlockAnswer>
     requires columns { HasColumns plan.now width }
-    requires kept { IsKeptBy plan.now width row.now buffer.old.key }
+    requires kept { IsKeptBy plan.now width (F.fields row.now) buffer.old.key }
     ensures key { buffer.new.key ≡ buffer.old.key }
-    ensures values { OnOk result (take (length plan.now.items) buffer.new.values ≡ map_list (value_of row.now) plan.now.items) }
-    ensures readable { OnOk result (position_from (is_unreadable row.now) 0 plan.now.items ≡ None) }
-    ensures stopped { IfErr result (ExplainsRow plan.now width row.now number) }
+    ensures values { OnOk result (take (length plan.now.items) buffer.new.values ≡ map_list (value_of (F.fields row.now)) plan.now.items) }
+    ensures readable { OnOk result (position_from (is_unreadable (F.fields row.now)) 0 plan.now.items ≡ None) }
+    ensures stopped { IfErr result (ExplainsRow plan.now width (F.fields row.now) number) }
 {
     match read_values(&mut buffer.values, row, plan.items()) {
         Ok(()) => Ok(()),
@@ -425,21 +543,21 @@ fn read_kept(
 
 /// Adds a row that is kept to the state at a place: mostly by the values of the state's lanes only, otherwise by those
 /// of all aggregates.
-fn add_to_known(
+fn add_to_known<F: RowFields>(
     states: &mut StateList,
     place: usize,
     buffer: &mut RowBuffer,
     number: u64,
-    row: &Record<'_>,
+    row: &F,
     width: u32,
     plan: &BoundPlan,
 ) -> Result<(), BlockAnswer>
     requires place { place < length states.old }
     requires columns { HasColumns plan.now width }
-    requires kept { IsKeptBy plan.now width row.now buffer.old.key }
-    ensures added { OnOk result (states.new ≡ set states.old place (combined (get_or states.old place empty_state) (items_state row.now plan.now.items))) }
-    ensures readable { OnOk result (position_from (is_unreadable row.now) 0 plan.now.items ≡ None) }
-    ensures stopped { IfErr result (ExplainsRow plan.now width row.now number) }
+    requires kept { IsKeptBy plan.now width (F.fields row.now) buffer.old.key }
+    ensures added { OnOk result (states.new ≡ set states.old place (combined (get_or states.old place empty_state) (items_state (F.fields row.now) plan.now.items))) }
+    ensures readable { OnOk result (position_from (is_unreadable (F.fields row.now)) 0 plan.now.items ≡ None) }
+    ensures stopped { IfErr result (ExplainsRow plan.now width (F.fields row.now) number) }
     ensures err { OnErr result (states.new ≡ states.old) }
 {
     if states.add_row(place, row, plan.items()) {

@@ -8,25 +8,34 @@
 //! states that a leader receives lie as those of its own rows.
 //!
 //! Whether the layout fits the rows of a plan, whatever their values, is found once for a block of rows (`fit`). A row
-//! of such a plan is then added by only the columns of its lanes, with no test for each row.
+//! of such a plan is then added by only the columns of its lanes, and a run of rows with one test for all of them.
 
-ghost use Rattle.std.specs.Prelude.{◌≡◌, ◌<◌, ◌≤◌, ◌+◌, ◌*◌, ◌++◌, ◌∷◌, [], All, IfOk, IfSome, IsTrue, None, OnErr, OnOk, Some, drop, get_or, length, map, set, slice_get, take};
+ghost use Rattle.std.specs.Prelude.{◌≡◌, ◌<◌, ◌≤◌, ◌+◌, ◌*◌, ◌^◌, ◌++◌, ◌∷◌, [], ℕ, All, Bool, IfErr, IfOk, IfSome, IsTrue, List, None, Ok, OnErr, OnOk, Some, drop, false, true, get_or, length, map, set, slice_get, take};
 ghost use Rattle.std.specs.Bool.{OnFalse, OnTrue};
 ghost use Rattle.std.specs.List.{position_from};
-ghost use Rattle.par_model.specs.Columns.{reads_column};
+ghost use Rattle.par_model.specs.Columns.{HasColumns, reads_column};
 ghost use Rattle.par_model.specs.Refuse.{is_unreadable};
+ghost use Rattle.partial_agg.specs.Blocks.{AddedFirst};
+ghost use Rattle.partial_agg.specs.Cursor.{AddedSome, SomeRefused};
 ghost use Rattle.partial_agg.specs.Fitting.{FitsItems, IsFitted};
+ghost use Rattle.partial_agg.specs.Groups.{GroupsByKey};
 ghost use Rattle.partial_agg.specs.Items.{items_state};
 ghost use Rattle.partial_agg.specs.Lanes.{Fits, IsWide, lanes_of, states_in, with_lanes};
+ghost use Rattle.partial_agg.specs.Placed.{IsGrouped, groups_at, places_of};
+ghost use Rattle.partial_agg.specs.Rows.{header_width};
 ghost use Rattle.partial_agg.specs.State.{combined, combined_slots, empty_state};
 ghost use Rattle.partial_agg.specs.Values.{slot_of_value, values_state};
 ghost use Rattle.partial_agg.specs.declared.layout.Layout.{Layout};
 
+use crate::fields::{RowCursor, RowFields};
 use crate::layout::{Layout, value_at};
-use crate::row::read_some;
+use crate::map::BlockAnswer;
+use crate::row::RowBuffer;
+use crate::run::{add_by_lanes, add_near, add_next};
 use crate::state::{add_to_slot, combine_slots, one_row, slot_of};
-use csv_rows::Record;
-use par_model::{AggState, Item, SlotState};
+use csv_rows::NearRows;
+use key_index::KeyTable;
+use par_model::{AggState, BoundPlan, Item, SlotState};
 use std::alloc::{AllocError, Global};
 use std::marker::Model;
 
@@ -205,7 +214,7 @@ impl StateList {
         Ok(())
     }
 
-    /// Makes rows of these items known to [`StateList::add_row`], if the layout fits each of them. It is done once for
+    /// Makes rows of these items known to the calls that add rows, if the layout fits each of them. It is done once for
     /// many rows.
     pub(crate) fn fit(&mut self, items: &[Item])
         requires { length items.now ≤ 8 }
@@ -223,23 +232,111 @@ impl StateList {
 
     /// Adds a row to the state at a place, if rows of these items are known to fit, and each can read its field;
     /// returns whether it did. Only the columns of the lanes are read.
-    pub(crate) fn add_row(&mut self, at: usize, row: &Record<'_>, items: &[Item]) -> bool
+    pub(crate) fn add_row<F: RowFields>(&mut self, at: usize, row: &F, items: &[Item]) -> bool
         requires place { at < length self.old }
-        requires columns { All (λ item. IsTrue (reads_column item.kind) → item.column < length row.now) items.now }
-        ensures added { OnTrue result (self.new ≡ set self.old at (combined (get_or self.old at empty_state) (items_state row.now items.now))) }
-        ensures readable { OnTrue result (position_from (is_unreadable row.now) 0 items.now ≡ None) }
+        requires columns { All (λ item. IsTrue (reads_column item.kind) → item.column < length (F.fields row.now)) items.now }
+        ensures added { OnTrue result (self.new ≡ set self.old at (combined (get_or self.old at empty_state) (items_state (F.fields row.now) items.now))) }
+        ensures readable { OnTrue result (position_from (is_unreadable (F.fields row.now)) 0 items.now ≡ None) }
         ensures unchanged { OnFalse result (self.new ≡ self.old) }
     {
-        let mut values = [None; 8];
-        if !is_known(&self.fitted, items)
-            || !read_some(&mut values, row, items, self.layout.kept())
-        {
+        if !is_known(&self.fitted, items) {
             return false;
         }
-        let width = self.layout.width();
-        add_each(&mut self.lanes, at * width, &values[..width]);
-        self.rows[at] = self.rows[at].wrapping_add(1);
-        true
+        let mut values = [None; 8];
+        add_by_lanes(
+            &self.layout,
+            &mut self.rows,
+            &mut self.lanes,
+            at,
+            &mut values,
+            row,
+            items,
+        )
+    }
+
+    /// Adds the rows of a block from a place on to the states of their groups, if rows of the plan's items are known to
+    /// fit, and gives the place of the first that it doesn't add.
+    pub(crate) fn add_near(
+        &mut self,
+        keys: &KeyTable,
+        buffer: &mut RowBuffer,
+        rows: &NearRows<'_>,
+        block: u64,
+        from: u64,
+        count: u64,
+        width: u32,
+        plan: &BoundPlan,
+    ) -> u64
+        requires order { from ≤ count }
+        requires few { count ≤ 256 }
+        requires rows { 256 * block + 1 + count ≤ length rows.now }
+        requires fits { 256 * block + 1 + count < 2 ^ 64 }
+        requires width { width ≡ header_width rows.now }
+        requires columns { HasColumns plan.now width }
+        ensures from { from ≤ result }
+        ensures within { result ≤ count }
+        ensures size { length self.new ≡ length self.old }
+        ensures added { (left : List ℕ) (sorted : Bool) (start : GroupsByKey) → IsGrouped keys.now (length self.old) left true sorted
+            → AddedFirst plan.now rows.now block from start (groups_at (places_of keys.now left) self.old)
+            → AddedFirst plan.now rows.now block result start (groups_at (places_of keys.now left) self.new) }
+    {
+        if !is_known(&self.fitted, plan.items()) {
+            return from;
+        }
+        add_near(
+            &self.layout,
+            &mut self.rows,
+            &mut self.lanes,
+            keys,
+            buffer,
+            rows,
+            block,
+            from,
+            count,
+            width,
+            plan,
+        )
+    }
+
+    /// Adds the rows that a cursor has left to the states of their groups, if rows of the plan's items are known to fit,
+    /// and counts them. Returns whether it stopped at a row, which is the cursor's and is not added.
+    pub(crate) fn add_next<C: RowCursor>(
+        &mut self,
+        keys: &KeyTable,
+        buffer: &mut RowBuffer,
+        cursor: &mut C,
+        count: &mut u64,
+        width: u32,
+        plan: &BoundPlan,
+    ) -> Result<bool, BlockAnswer>
+        requires widest { width ≤ C.widest }
+        requires few { count.old + length (C.left cursor.old) < 2 ^ 64 }
+        requires columns { HasColumns plan.now width }
+        ensures size { length self.new ≡ length self.old }
+        ensures rises { count.old ≤ count.new }
+        ensures few { result ≡ Ok true → count.new + (1 + length (C.left cursor.new)) ≡ count.old + length (C.left cursor.old) }
+        ensures stopped { result ≡ Ok true → (left : List ℕ) (sorted : Bool) (start : GroupsByKey) (all : List (List (List ℕ))) → IsGrouped keys.now (length self.old) left true sorted
+            → AddedSome plan.now width all count.old (C.left cursor.old) start (groups_at (places_of keys.now left) self.old)
+            → AddedSome plan.now width all count.new (C.fields cursor.new ∷ C.left cursor.new) start (groups_at (places_of keys.now left) self.new) }
+        ensures ended { result ≡ Ok false → (left : List ℕ) (sorted : Bool) (start : GroupsByKey) (all : List (List (List ℕ))) → IsGrouped keys.now (length self.old) left true sorted
+            → AddedSome plan.now width all count.old (C.left cursor.old) start (groups_at (places_of keys.now left) self.old)
+            → AddedSome plan.now width all count.new [] start (groups_at (places_of keys.now left) self.new) }
+        ensures refused { IfErr result (λ why. (all : List (List (List ℕ))) → C.left cursor.old ≡ drop count.old all → SomeRefused plan.now width all why) }
+    {
+        if !is_known(&self.fitted, plan.items()) {
+            return cursor.next_row(width);
+        }
+        add_next(
+            &self.layout,
+            &mut self.rows,
+            &mut self.lanes,
+            keys,
+            buffer,
+            cursor,
+            count,
+            width,
+            plan,
+        )
     }
 
     /// Adds the row that has these values to the state at a place.
@@ -291,7 +388,8 @@ fn is_same(a: Item, b: Item) -> bool
 }
 
 /// Adds values to the lanes from a place on, one to each.
-fn add_each(lanes: &mut [SlotState], first: usize, values: &[Option<i64>])
+#[inline(always)]
+pub(crate) fn add_each(lanes: &mut [SlotState], first: usize, values: &[Option<i64>])
     requires { first + length values.now ≤ length lanes.old }
     ensures { lanes.new ≡ with_lanes lanes.old first (combined_slots (take (length values.now) (drop first lanes.old)) (map slot_of_value values.now)) }
 {
@@ -299,6 +397,7 @@ fn add_each(lanes: &mut [SlotState], first: usize, values: &[Option<i64>])
 }
 
 /// Adds a value to each lane.
+#[inline(always)]
 fn add_to_each(lanes: &mut [SlotState], values: &[Option<i64>])
     requires { length lanes.old ≡ length values.now }
     ensures { lanes.new ≡ combined_slots lanes.old (map slot_of_value values.now) }

@@ -5,9 +5,9 @@ use Rattle.partial_agg.proofs.Judging.{goes_on, verdict_kept, verdict_left_out, 
 use Rattle.partial_agg.proofs.row.judge_by.Goals as goal
 
 pub returns-in-Some-false : goal.returns-in-Some-false
-returns-in-Some-false c =
+returns-in-Some-false g c =
     let plan = c.args.plan.now in
-    let row = c.args.row.now in
+    let row = (g.F.RowFields.fields c.args.row.now) in
     let filter = c.filter-item.result in
     let is : filter ≡ get_or plan.filters c.loop-i.i filter = rw (← c.filters-filter-items.ensures.filters) c.filter-item.is in
     let inside : c.loop-i.i < length plan.filters = rw (← c.filters-filter-items.ensures.filters) c.loop-i-test.true in
@@ -15,9 +15,9 @@ returns-in-Some-false c =
     sym (verdict_left_out plan row c.loop-i.i filter is c.loop-i.invariant inside said)
 
 pub returns-in-None : goal.returns-in-None
-returns-in-None c =
+returns-in-None g c =
     let plan = c.args.plan.now in
-    let row = c.args.row.now in
+    let row = (g.F.RowFields.fields c.args.row.now) in
     let filter = c.filter-item.result in
     let is : filter ≡ get_or plan.filters c.loop-i.i filter = rw (← c.filters-filter-items.ensures.filters) c.filter-item.is in
     let inside : c.loop-i.i < length plan.filters = rw (← c.filters-filter-items.ensures.filters) c.loop-i-test.true in
@@ -25,9 +25,9 @@ returns-in-None c =
     sym (verdict_misread plan row c.loop-i.i filter is c.loop-i.invariant inside said)
 
 pub loop-i-preserved : goal.loop-i-preserved
-loop-i-preserved c =
+loop-i-preserved g c =
     let plan = c.args.plan.now in
-    let row = c.args.row.now in
+    let row = (g.F.RowFields.fields c.args.row.now) in
     let filter = c.filter-item.result in
     let is : filter ≡ get_or plan.filters c.loop-i.i filter = rw (← c.filters-filter-items.ensures.filters) c.filter-item.is in
     let inside : c.loop-i.i < length plan.filters = rw (← c.filters-filter-items.ensures.filters) c.loop-i-test.true in
@@ -35,6 +35,6 @@ loop-i-preserved c =
     goes_on plan row c.loop-i.i filter is c.loop-i.invariant inside said
 
 pub returns : goal.returns
-returns c =
+returns g c =
     let all : length c.args.plan.now.filters ≤ c.loop-i.i = rw (← c.filters-filter-items.ensures.filters) c.loop-i-test.false in
-    sym (verdict_kept c.args.plan.now c.args.row.now c.loop-i.i c.loop-i.invariant all)
+    sym (verdict_kept c.args.plan.now (g.F.RowFields.fields c.args.row.now) c.loop-i.i c.loop-i.invariant all)

@@ -5,4 +5,4 @@ use Rattle.partial_agg.proofs.row.judge_by.Given as goal
 
 -- the filters so far keep the row
 abbrev pub invariant-loop-i : goal.invariant-loop-i
-invariant-loop-i l = position_from (λ filter. not (keeps filter l.row)) 0 (take l.i l.plan.filters) ≡ None
+invariant-loop-i g l = position_from (λ filter. not (keeps filter (g.F.RowFields.fields l.row))) 0 (take l.i l.plan.filters) ≡ None

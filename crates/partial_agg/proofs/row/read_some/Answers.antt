@@ -6,8 +6,8 @@ use Rattle.partial_agg.proofs.Lanes.{map_step}
 use Rattle.partial_agg.proofs.row.read_some.Goals as goal
 
 pub loop-i-preserved : goal.loop-i-preserved
-loop-i-preserved c =
-    let row = c.args.row.now in
+loop-i-preserved g c =
+    let row = (g.F.RowFields.fields c.args.row.now) in
     let items = c.args.items.now in
     let places = c.args.places.now in
     let inv = c.loop-i.invariant in

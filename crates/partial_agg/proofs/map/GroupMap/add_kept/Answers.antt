@@ -13,7 +13,7 @@ use Rattle.partial_agg.proofs.Placed.{state_combined}
 use Rattle.partial_agg.proofs.map.GroupMap.add_kept.Goals as goal
 
 pub add_to_known-requires-clause-place : goal.add_to_known-requires-clause-place
-add_to_known-requires-clause-place c =
+add_to_known-requires-clause-place g c =
     let there = slice_get_within c.self.inside.keys c.in-Some.place c.bytes.result.now c.in-Some.ensures.found in
     let counted = c.self.invariant.counted in
     omega (arith, there, counted)
@@ -24,13 +24,13 @@ on_ok (Ok x) P Q R p q f = f p q
 on_ok (Err e) P Q R p q f = p
 
 pub returns-in-Some-clause-added : goal.returns-in-Some-clause-added
-returns-in-Some-clause-added c =
+returns-in-Some-clause-added g c =
     let keys = c.self.inside.keys in
     let left = reverse c.self.inside.left.items in
     let states = c.self.inside.states in
     let count = length states in
     let key = c.args.buffer.now.key in
-    let row = c.args.row.now in
+    let row = (g.F.RowFields.fields c.args.row.now) in
     let plan = c.args.plan.now in
     let place = c.in-Some.place in
     let new = c.add_to_known.new.states in

@@ -7,7 +7,7 @@ use Rattle.partial_agg.proofs.Blocks.{row_added}
 use Rattle.partial_agg.proofs.map.GroupMap.add_other.Goals as goal
 
 pub returns-in-Ok-add_state-clause-added : goal.returns-in-Ok-add_state-clause-added
-returns-in-Ok-add_state-clause-added c =
+returns-in-Ok-add_state-clause-added g c =
     let groups = c.args.self.now in
     let key = c.args.buffer.now.key in
     let plan = c.args.plan.now in
@@ -17,4 +17,4 @@ returns-in-Ok-add_state-clause-added c =
     ∙ ap (λ (state : AggState). added groups key state) c.one_row-state.ensures
     ∙ ap (λ (items : List Item). added groups key (values_state (take (length items) values))) c.items.ensures.items
     ∙ ap (λ (vs : List (Option ℤ)). added groups key (values_state vs)) c.in-Ok.ensures.values
-    ∙ row_added plan c.args.width c.args.row.now key groups c.requires.kept c.in-Ok.ensures.readable
+    ∙ row_added plan c.args.width (g.F.RowFields.fields c.args.row.now) key groups c.requires.kept c.in-Ok.ensures.readable
