@@ -4,5 +4,3 @@ pub mod Closing
 pub mod Inside
 pub mod Spans
 pub mod Found
-pub mod Key
-pub mod Refused

@@ -2,11 +2,11 @@
 
 ghost use Rattle.std.specs.Prelude.{◌≡◌, ◌≢◌, ◌↔◌, ◌≤◌, ◌<◌, ◌+◌, ◌++◌, ◌∷◌, [], ℕ, List, IfErr, IfNone, IfOk, IfSome, Ok, OnOk, false, get_or, length, slice_index, true};
 ghost use Rattle.par_model.specs.Plan.{Plan};
+ghost use Rattle.partial_agg.specs.Cursor.{SomeRefused};
 ghost use Rattle.csv_rows.specs.Plain.{NoReturn};
 ghost use Rattle.csv_rows.specs.Records.{records_of};
 ghost use Rattle.found_rows.specs.Found.{BeginsWide, records_from};
 ghost use Rattle.found_rows.specs.Masks.{IsBlock, IsFirst, is_quote};
-ghost use Rattle.found_rows.specs.Refused.{SomeRefused};
 ghost use Rattle.found_rows.specs.Spans.{AreSpans, fields_in};
 ghost use Rattle.found_rows.specs.Written.{IsWritten, between, read_as};
 ghost use Rattle.found_rows.specs.Closing.{IsClosed, LeavesOpen};

@@ -6,18 +6,17 @@
 //! of its fields in the text. A field is copied only if two quotes in it stand for one, or if it goes on after the quote that
 //! closes it, or if no quote does.
 //!
-//! [`FoundBuffer`] reads the key and the values that a plan takes of a record, in its place.
+//! A scan is the cursor of its rows (`RowCursor` of `partial_agg`), so a map adds its records and a buffer reads one of them
+//! in their places.
 
 #![tactic(auto)]
 
 mod block;
+mod cursor;
 mod found;
-mod key;
 mod masks;
-mod reading;
 mod spans;
 mod written;
 
 pub use found::{Found, FoundRows};
-pub use reading::FoundBuffer;
 pub use spans::MOST_FIELDS;

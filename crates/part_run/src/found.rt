@@ -1,21 +1,18 @@
 //! The rows of a piece, put into lists as they are found, with no store between.
 
-ghost use Rattle.std.specs.Prelude.{◌≡◌, ◌<◌, ◌^◌, ◌∷◌, [], All, IfErr, IfNone, IfOk, IfSome, OnOk, OnSome, drop, length, take};
+ghost use Rattle.std.specs.Prelude.{◌≡◌, ◌<◌, ◌^◌, ◌∷◌, [], All, IfErr, IfNone, IfOk, IfSome, OnOk, OnSome, drop, length};
 ghost use Rattle.csv_rows.specs.Records.{records_of};
 ghost use Rattle.par_model.specs.Columns.{HasColumns};
 ghost use Rattle.partial_agg.specs.Rows.{IsAccepted, header_width};
-ghost use Rattle.row_lists.specs.Carried.{carried};
-ghost use Rattle.row_lists.specs.Parts.{with_row};
-ghost use Rattle.found_rows.specs.Key.{key_in, values_in};
-ghost use Rattle.found_rows.specs.Refused.{SomeRefused};
 ghost use Rattle.split_run.specs.Causes.{IsCause};
 ghost use Rattle.part_run.specs.Carrying.{spread};
 
-use found_rows::{Found, FoundBuffer, FoundRows};
+use crate::piece::spread_row;
+use found_rows::{Found, FoundRows};
 use par_model::BoundPlan;
-use partial_agg::{BlockAnswer, RowStatus};
+use partial_agg::{BlockAnswer, RowBuffer};
 use row_lists::PartLists;
-use std::alloc::{AllocError, Global};
+use std::alloc::Global;
 
 /// Puts the rows of some bytes into lists and gives their number. `None` if [`FoundRows`] does not take these bytes; then
 /// none is put.
@@ -60,51 +57,11 @@ fn spread_left(
     ensures refused { IfErr result (IsCause plan.now (rows.old.row ∷ rows.old.left)) }
 {
     let width = rows.width();
-    let mut buffer = FoundBuffer::new();
+    let mut buffer = RowBuffer::new();
     let mut count = 0;
     'rows: while rows.next_row(width)? {
-        spread_row(&mut buffer, rows, width, plan, lists)?;
+        spread_row(&mut buffer, 1, rows, width as u32, plan, lists)?;
         count += 1;
     }
     Ok(count)
-}
-
-/// Puts the row that was found last into a list, if it is kept.
-#[inline(always)]
-fn spread_row(
-    buffer: &mut FoundBuffer,
-    rows: &FoundRows<'_>,
-    width: usize,
-    plan: &BoundPlan,
-    lists: &mut PartLists,
-) -> Result<(), BlockAnswer>
-    requires columns { HasColumns plan.now width }
-    ensures spread { OnOk result (lists.new ≡ spread plan.now lists.old (rows.now.row ∷ [])) }
-    ensures accepted { OnOk result (IsAccepted plan.now width rows.now.row) }
-    ensures refused { IfErr result (SomeRefused plan.now width (rows.now.row ∷ [])) }
-{
-    match buffer.read(rows, width, plan) {
-        RowStatus::Refused(refusal) => Err(BlockAnswer::Row {
-            row: 1,
-            cause: refusal.cause,
-            item: refusal.item,
-        }),
-        RowStatus::LeftOut => Ok(()),
-        RowStatus::Kept => match push_found(buffer, plan, lists) {
-            Ok(()) => Ok(()),
-            Err(AllocError) => Err(BlockAnswer::Memory),
-        },
-    }
-}
-
-/// Puts the row that was read into the list of its part.
-#[inline(always)]
-fn push_found(
-    buffer: &FoundBuffer,
-    plan: &BoundPlan,
-    lists: &mut PartLists,
-) -> Result<(), AllocError>
-    ensures { OnOk result (lists.new ≡ with_row lists.old (carried (key_in buffer.now) (take (length plan.now.items) (values_in buffer.now)))) }
-{
-    lists.push(buffer.key(), buffer.values(plan.items().len()))
 }

@@ -171,7 +171,7 @@ impl Parts {
     }
 }
 
-/// The lists of so many participants, with no rows.
+/// The lists of this many participants, with no rows.
 fn empty_lists(alloc: Global, many: usize) -> Result<Vec<PartLists>, AllocError>
     ensures { IfOk result (λ lists. lists.items ≡ replicate many no_rows) }
 {

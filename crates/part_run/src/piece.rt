@@ -15,7 +15,7 @@ ghost use Rattle.part_run.specs.Carrying.{spread};
 use crate::found::spread_found;
 use csv_rows::{Record, RowStore, rows_as};
 use par_model::BoundPlan;
-use partial_agg::{BlockAnswer, RowBuffer, RowStatus};
+use partial_agg::{BlockAnswer, RowBuffer, RowFields, RowStatus};
 use row_lists::PartLists;
 use row_windows::Window;
 use std::alloc::{AllocError, Global};
@@ -93,20 +93,20 @@ fn spread_store(rows: &RowStore, plan: &BoundPlan, lists: &mut PartLists) -> Res
     Ok(())
 }
 
-/// Puts a row into a list, if it is kept.
+/// Puts a row into a list, if it is kept. A refusal names the row by this number.
 #[inline(always)]
-fn spread_row(
+pub(crate) fn spread_row<F: RowFields>(
     buffer: &mut RowBuffer,
     number: u64,
-    row: &Record<'_>,
+    row: &F,
     width: u32,
     plan: &BoundPlan,
     lists: &mut PartLists,
 ) -> Result<(), BlockAnswer>
     requires columns { HasColumns plan.now width }
-    ensures spread { OnOk result (lists.new ≡ spread plan.now lists.old (row.now ∷ [])) }
-    ensures accepted { OnOk result (IsAccepted plan.now width row.now) }
-    ensures stopped { IfErr result (ExplainsRow plan.now width row.now number) }
+    ensures spread { OnOk result (lists.new ≡ spread plan.now lists.old (F.fields row.now ∷ [])) }
+    ensures accepted { OnOk result (IsAccepted plan.now width (F.fields row.now)) }
+    ensures stopped { IfErr result (ExplainsRow plan.now width (F.fields row.now) number) }
 {
     match buffer.read(row, width, plan) {
         RowStatus::Refused(refusal) => Err(BlockAnswer::Row {

@@ -17,8 +17,11 @@ use row_blocks::count_blocks;
 use row_windows::Window;
 use std::alloc::Global;
 
-/// From so many groups on, a map looks for the rows of a block together, which takes a store.
+/// From this many groups on, a map looks for the rows of a block together, which takes a store.
 const MOST_NEAR_GROUPS: usize = 8192;
+
+/// A header with fewer commas than this is of narrow rows.
+const MOST_NARROW: u32 = 8;
 
 /// Reads the rows of a piece, adds them to a map, and gives their number.
 pub(crate) fn add_piece(
@@ -43,14 +46,26 @@ pub(crate) fn add_piece(
     add_stored(alloc, piece, plan, groups)
 }
 
-/// Whether the rows of a piece are added as they are found: if there are quotes, with which a store is slow to fill, and the
-/// groups are so few that looking for one does not wait for far memory.
+/// Whether the rows of a piece are added as they are found: if the groups are so few that looking for one does not wait
+/// for far memory, and the rows have few fields, or quotes. A store finds the fields of wide rows faster, but is slow to
+/// fill if there are quotes.
 fn is_found(piece: &Window, groups: &GroupMap) -> bool
     ensures { result ≡ true → is_plain piece.now.reading ≡ true }
 {
     piece.reading().is_plain()
         && groups.len() < MOST_NEAR_GROUPS
-        && memchr(b'"', piece.table()).is_some()
+        && (is_narrow(piece.header()) || memchr(b'"', piece.table()).is_some())
+}
+
+/// Whether a header has few columns, as far as its commas tell.
+fn is_narrow(header: &[u8]) -> bool {
+    let mut commas = 0u32;
+    for byte in header.iter() {
+        if *byte == b',' {
+            commas = commas.saturating_add(1);
+        }
+    }
+    commas < MOST_NARROW
 }
 
 /// Reads the rows of a piece into a store, adds them to a map, and gives their number.

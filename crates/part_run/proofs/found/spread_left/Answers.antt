@@ -1,11 +1,10 @@
-use Rattle.std.proofs.Common.{◌≡◌, ◌∙◌, ◌∷◌, Ok, ap, arith, drop, subst, sym}
+use Rattle.std.proofs.Common.{◌≡◌, ◌∙◌, ◌∷◌, Ok, ap, arith, drop, sym}
 use Rattle.std.proofs.lemmas.List.{take_all}
 use Rattle.std.proofs.lemmas.Result.{err_from_is_err_and}
-use Rattle.row_blocks.specs.Blocks.{Table}
-use Rattle.found_rows.specs.Refused.{SomeRefused}
-use Rattle.split_run.proofs.FoundPiece.{accepted-next, all-found, cause-of, next-rest, refused-among, refused-next, there}
+use Rattle.partial_agg.proofs.Cursor.{first_refused, some_refused}
+use Rattle.split_run.proofs.FoundPiece.{cause-of}
 use Rattle.part_run.specs.Carrying.{spread}
-use Rattle.part_run.proofs.FoundSpread.{spread-found}
+use Rattle.part_run.proofs.FoundSpread.{accepted-next, all-found, next-rest, spread-found, there}
 use Rattle.part_run.proofs.found.spread_left.Goals as goal
 
 pub returns-in_err-next_row-clause-refused : goal.returns-in_err-next_row-clause-refused
@@ -14,8 +13,7 @@ returns-in_err-next_row-clause-refused c =
     let plan = c.args.plan.now in
     let all = c.args.rows.now.left in
     let why = c.in_err-next_row.field-0.0 in
-    let some = subst (λ (l : Table). SomeRefused plan c.width-width.result l why) c.rows.invariant.left (c.in_err-next_row.ensures.refused plan) in
-    rw (p.1, p.2) (cause-of plan c.args.rows.now.row all c.width-width.result why c.width-width.ensures.width (refused-among plan c.width-width.result all c.rows.count why some))
+    rw (p.1, p.2) (cause-of plan c.args.rows.now.row all c.width-width.result why c.width-width.ensures.width (some_refused plan c.width-width.result all c.rows.rows.left c.rows.count why c.rows.invariant.left (c.in_err-next_row.ensures.refused plan)))
 
 pub returns-in_err-spread_row-clause-refused : goal.returns-in_err-spread_row-clause-refused
 returns-in_err-spread_row-clause-refused c =
@@ -25,7 +23,7 @@ returns-in_err-spread_row-clause-refused c =
     let why = c.in_err-spread_row.field-0.0 in
     let next = c.next_row.new.self in
     let is : drop c.rows.count all ≡ next.row ∷ next.left = sym c.rows.invariant.left ∙ c.next_row.ensures.row (c.in_ok-next_row.was ∙ ap Ok c.if-branch.true) in
-    rw (p.1, p.2) (cause-of plan c.args.rows.now.row all c.width-width.result why c.width-width.ensures.width (refused-next all next.left next.row c.rows.count is plan c.width-width.result why c.in_err-spread_row.ensures.refused))
+    rw (p.1, p.2) (cause-of plan c.args.rows.now.row all c.width-width.result why c.width-width.ensures.width (some_refused plan c.width-width.result all (next.row ∷ next.left) c.rows.count why (sym is) (first_refused plan c.width-width.result next.row next.left 1 why c.in_err-spread_row.ensures.stopped)))
 
 pub rows-preserved : goal.rows-preserved
 rows-preserved c =

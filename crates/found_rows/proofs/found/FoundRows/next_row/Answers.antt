@@ -6,7 +6,7 @@ use Rattle.partial_agg.proofs.Refusals.{width_of_accepted}
 use Rattle.found_rows.specs.Found.{BeginsWide}
 use Rattle.found_rows.proofs.found.FoundRows.next_row.Goals as goal
 
--- a row of so many fields is not accepted
+-- a row of this many fields is not accepted
 not-accepted : (plan : Plan) (width : ℕ) (rows : List (List (List ℕ))) → width ≤ 64 → BeginsWide rows → All (IsAccepted plan width) rows → ⊥
 not-accepted plan width rows few b accepted =
     let all : All (IsAccepted plan width) (b.first ∷ b.others) = subst (λ (l : List (List (List ℕ))). All (IsAccepted plan width) l) b.are accepted in
