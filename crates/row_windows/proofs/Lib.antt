@@ -4,3 +4,4 @@ pub mod Stretches
 pub mod Later
 pub mod Cuts
 pub mod InFront
+pub mod Marks

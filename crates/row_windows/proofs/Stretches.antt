@@ -1,10 +1,11 @@
 -- A text that is cut at rising places, and what is read behind it.
-use Rattle.std.proofs.Common.{◌≡◌, ◌≤◌, ◌+◌, ◌-◌, ◌∙◌, ℕ, List, [], ◌++◌, Option, length, take, drop, sym, ap, arith, min, append_assoc}
+use Rattle.std.proofs.Common.{◌≡◌, ◌≤◌, ◌+◌, ◌-◌, ◌∙◌, ℕ, List, [], ◌++◌, Option, length, take, drop, refl, sym, ap, arith, min, append_assoc, length-append}
 use Rattle.std.proofs.lemmas.List.{drop-drop, drop-take, length-drop, length-take, take-take}
 use Rattle.std.proofs.Math.Seq.{take-add}
 use Rattle.std.proofs.KnownBytes.{Consumes-trans}
 use Rattle.std.specs.Io.KnownBytes.{Consumes}
-use Rattle.row_windows.specs.Stretch.{Fills, IsWindow, between}
+use Rattle.row_windows.specs.Stretch.{Fills, IsLostWindow, IsWindow, LosesRead, Stretch, between}
+use Rattle.row_windows.specs.declared.window.TheConstants.{MOST_RECORD_BYTES}
 
 -- a stretch and the one behind it
 pub between-add : (a b c : ℕ) (text : List ℕ) → a ≤ b → b ≤ c → between a c text ≡ between a b text ++ between b c text
@@ -77,3 +78,9 @@ between-none n text =
 pub fills-more : (a b c : Option (List ℕ)) (rest middle text : List ℕ) → Fills a b rest middle → Fills b c middle text → Fills a c rest text
 fills-more a b c rest middle text first second =
     (first.0 ++ second.0, Consumes-trans a b c first.0 second.0 first.1 second.1, second.2 ∙ (ap (λ xs. xs ++ second.0) first.2 ∙ append_assoc rest first.0 second.0))
+
+-- a window of which the last reading failed
+pub lost-window : (a b c : Option (List ℕ)) (was : Stretch) (rest : List ℕ) (goal : ℕ) → Fills a b was.rest rest → LosesRead b c (length rest) goal → goal ≤ MOST_RECORD_BYTES + 1 → IsLostWindow a c was
+lost-window a b c was rest goal before lost low =
+    let text = rest ++ lost.0 in
+    record { text = text; reads = fills-more a b c was.rest rest text before (lost.0, lost.1, refl); few = omega (arith, length-append rest lost.0, lost.2, low) }

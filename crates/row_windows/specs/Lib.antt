@@ -1,3 +1,4 @@
 pub mod Seams
 pub mod Ends
 pub mod Stretch
+pub mod Quotes

@@ -38,3 +38,13 @@ pub record IsLongWindow (old new : Option (List ℕ)) (was now : Stretch) : Type
   pub lines : now.lines ≡ []
   pub reads : Fills old new was.rest now.rest
   pub long : IsLong now.rest
+
+-- What was read of a source before a read failed: with what there was, at most as many bytes as were to be read
+abbrev pub LosesRead : Option (List ℕ) → Option (List ℕ) → ℕ → ℕ → Type 0
+LosesRead old new had most = (more : List ℕ) × Consumes old new more × (had + length more ≤ most)
+
+-- What there was of a window, and what was read before a read failed, is lost: at most a record and a byte
+pub record IsLostWindow (old new : Option (List ℕ)) (was : Stretch) : Type 0 where
+  pub text : List ℕ
+  pub reads : Fills old new was.rest text
+  pub few : length text ≤ MOST_RECORD_BYTES + 1

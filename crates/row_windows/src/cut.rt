@@ -1,8 +1,8 @@
 //! Places at which a text can be cut: in front of a byte that ends a line and does not stand between quotes. Mostly the last
 //! one is looked for.
 //!
-//! Which bytes stand between quotes depends on all bytes before, so a scan goes from quote to quote and looks between
-//! them for the last end of a line. A byte order mark at the front is no byte of the text.
+//! Which bytes stand between quotes depends on all bytes before, so a scan goes from quote to quote; among the last bytes
+//! it looks between them for the last end of a line. A byte order mark at the front is no byte of the text.
 
 ghost use Rattle.std.specs.Prelude.{◌≡◌, ◌≤◌, ◌-◌, IfSome, None, drop, length, take};
 ghost use Rattle.csv.specs.Reading.{strip_bom};
@@ -12,6 +12,7 @@ ghost use Rattle.row_windows.specs.Ends.{IsLastBelow, IsOpenEnd};
 ghost use Rattle.row_windows.specs.Seams.{IsCutAt, NoCut};
 
 use crate::header::ends_line;
+use crate::quotes::place_behind;
 use csv_rows::{Place, past_others, past_quote, scanned, without_mark};
 use memchr::{memchr, memrchr2};
 
@@ -81,7 +82,7 @@ fn last_end(text: &[u8]) -> Option<usize>
     ensures { IsLastBelow text.now (length text.now) result }
 {
     let from = text.len().saturating_sub(LAST_BYTES);
-    match last_from(text, from, scanned(&text[..from], Place::Opens)) {
+    match last_from(text, from, place_behind(&text[..from])) {
         Some(at) => Some(at),
         None => last_from(text, 0, Place::Opens),
     }

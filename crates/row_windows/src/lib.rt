@@ -13,6 +13,7 @@
 mod cut;
 mod header;
 mod law;
+mod quotes;
 mod read;
 mod window;
 

@@ -1,8 +1,9 @@
 //! Reading into a growing buffer.
 
 ghost use Rattle.std.specs.Prelude.{◌≡◌, ◌<◌, ◌≤◌, ◌+◌, ◌-◌, IfErr, IfOk, OnErr, drop, false, length, max, take, true, vec_len};
-ghost use Rattle.std.specs.Io.KnownBytes.{Consumes, IsAtEnd};
+ghost use Rattle.std.specs.Io.KnownBytes.{Consumes, IsAtEnd, Keeps};
 ghost use Rattle.par_io.specs.Faults.{HasCause, Rose};
+ghost use Rattle.row_windows.specs.Stretch.{LosesRead};
 ghost use Rattle.row_windows.specs.declared.window.WindowAnswer.TheVariants as answer;
 
 use crate::window::WindowAnswer;
@@ -34,6 +35,7 @@ pub(crate) fn read_to<S: Source>(
     ensures read { IfOk result (λ r. Consumes (S.left source.old) (S.left source.new) (take (r.upto - filled) (drop filled text.new.items))) }
     ensures end { IfOk result (λ r. r.ended ≡ true → IsAtEnd (S.left source.new)) }
     ensures full { IfOk result (λ r. r.ended ≡ false → upto ≤ r.upto) }
+    ensures lost { OnErr result (LosesRead (S.left source.old) (S.left source.new) filled upto) }
     ensures read_fault { result ≡ Err answer.ReadFault → Rose (S.faults source.old) (S.faults source.new) }
     ensures faults { S.faults source.old ≤ S.faults source.new }
     ensures why { IfErr result (λ why. (why ≡ answer.LongRecord) → ⊥) }
@@ -60,6 +62,7 @@ fn fill_from<S: Source>(source: &mut S, buf: &mut [u8], from: usize) -> Result<F
     ensures read { IfOk result (λ r. Consumes (S.left source.old) (S.left source.new) (take (r.upto - from) (drop from buf.new))) }
     ensures end { IfOk result (λ r. r.ended ≡ true → IsAtEnd (S.left source.new)) }
     ensures full { IfOk result (λ r. r.ended ≡ false → length buf.new ≤ r.upto) }
+    ensures lost { OnErr result (LosesRead (S.left source.old) (S.left source.new) from (length buf.old)) }
     ensures cause { OnErr result (Rose (S.faults source.old) (S.faults source.new)) }
     ensures faults { S.faults source.old ≤ S.faults source.new }
     ensures why { IfErr result (λ why. why ≡ answer.ReadFault) }
@@ -89,6 +92,7 @@ fn read_at<S: Source>(source: &mut S, buf: &mut [u8], at: usize) -> Result<usize
     ensures fits { IfOk result (λ n. at + n ≤ length buf.new) }
     ensures read { IfOk result (λ n. Consumes (S.left source.old) (S.left source.new) (take n (drop at buf.new))) }
     ensures end { IfOk result (λ n. n ≡ 0 → IsAtEnd (S.left source.new)) }
+    ensures kept { OnErr result (Keeps (S.left source.old) (S.left source.new)) }
     ensures cause { HasCause (S.faults source.old) (S.faults source.new) result }
     ensures why { IfErr result (λ e. e ≡ answer.ReadFault) }
 {

@@ -1,10 +1,10 @@
 //! A stretch of the text of a source: whole lines, and the beginning of the line behind them.
 
-ghost use Rattle.std.specs.Prelude.{◌≡◌, ◌<◌, ◌≤◌, ◌++◌, ◌+◌, ◌^◌, ℕ, List, [], IfErr, IfOk, OnOk, drop, false, length, take, true, vec_len};
+ghost use Rattle.std.specs.Prelude.{◌≡◌, ◌<◌, ◌≤◌, ◌++◌, ◌+◌, ◌^◌, ℕ, List, [], IfErr, IfOk, OnErr, OnOk, drop, false, length, take, true, vec_len};
 ghost use Rattle.std.specs.Io.KnownBytes.{Consumes, IsAtEnd};
 ghost use Rattle.par_io.specs.Faults.{Rose};
 ghost use Rattle.row_windows.specs.Seams.{IsSeam, NoCut};
-ghost use Rattle.row_windows.specs.Stretch.{Fills, IsLongWindow};
+ghost use Rattle.row_windows.specs.Stretch.{Fills, IsLongWindow, IsLostWindow, LosesRead};
 ghost use Rattle.csv.specs.Reading.{strip_bom};
 ghost use Rattle.row_windows.specs.declared.window.Found.TheVariants as found;
 ghost use Rattle.row_windows.specs.declared.window.WindowAnswer.TheVariants as answer;
@@ -114,6 +114,7 @@ impl Window {
 
         // Why it answers an error.
         ensures read_fault { result ≡ Err answer.ReadFault → Rose (S.faults source.old) (S.faults source.new) }
+        ensures lost { result ≡ Err answer.ReadFault → IsLostWindow (S.left source.old) (S.left source.new) self.old }
         ensures long { result ≡ Err answer.LongRecord → IsLongWindow (S.left source.old) (S.left source.new) self.old self.new }
         ensures faults { S.faults source.old ≤ S.faults source.new }
     {
@@ -136,7 +137,7 @@ impl Window {
         }
     }
 
-    /// The same, but that it answers if there is no place to cut among so many bytes. Where more were read already, these
+    /// The same, but that it answers if there is no place to cut among this many bytes. Where more were read already, these
     /// are not the last lines.
     fn read_on<S: Source>(
         &mut self,
@@ -154,6 +155,7 @@ impl Window {
         ensures no_cut { IfOk result (λ r. r ≡ found.NoCut → (self.new.lines ≡ []) × (goal ≤ length self.new.rest) × (goal ≡ MOST_RECORD_BYTES + 1 → NoCut (strip_bom self.new.rest))) }
         ensures short { OnOk result (length self.new.lines ≤ MOST_RECORD_BYTES) }
         ensures read_fault { result ≡ Err answer.ReadFault → Rose (S.faults source.old) (S.faults source.new) }
+        ensures lost { OnErr result (LosesRead (S.left source.old) (S.left source.new) (length self.old.rest) goal) }
         ensures faults { S.faults source.old ≤ S.faults source.new }
         ensures why { IfErr result (λ why. (why ≡ answer.LongRecord) → ⊥) }
     {
