@@ -19,6 +19,7 @@ ghost use Rattle.par_io.specs.Faults.{Rose};
 ghost use Rattle.answer_text.specs.Lines.{IsSaid};
 ghost use Rattle.answer_text.specs.Words.{texts};
 ghost use Rattle.par_stream.specs.Answers.{IsTableText};
+ghost use Rattle.stream_groups.specs.Before.{ReadBeforeOf};
 ghost use Rattle.stream_groups.specs.Lines.{line};
 ghost use Rattle.stream_groups.specs.Sources.{bare_faults, bare_left};
 ghost use Rattle.stream_groups.specs.Stops.{TellsOf, stop_says, usage_text};
@@ -49,7 +50,7 @@ pub const WINDOW_BYTES: usize = 4_194_304;
 /// Time is linear in the input, but for the look-up of each row's group and the order of the groups. Memory is two
 /// batches of windows, for each participant the records of one window, and the groups and the text: few groups are
 /// in a map for each participant; many are in one map for each part of the keys, with the keys and values of rows that wait to
-/// be added, as many bytes as four batches have or 32 for each group.
+/// be added, as many bytes as six batches have or 32 for each group.
 pub fn stream_table<R: Threads + Wait + Sync, S: Source, O: Sink, E: Sink, P: Progress>(
     rt: &R,
     alloc: Global,
@@ -66,6 +67,9 @@ pub fn stream_table<R: Threads + Wait + Sync, S: Source, O: Sink, E: Sink, P: Pr
     ensures why { (result ≢ TABLE) → (why : Stop) × TellsOf (stream_query_of (texts words.now)) (bare_left S.left source.old) why × (result ≡ (stop_says why).0)
         × IsSaid (E.taken err.old) (E.taken err.new) (E.faults err.old) (E.faults err.new) (line (stop_says why).1) }
     ensures read_fault { result ≡ READ_FAULT → Rose (bare_faults S.faults source.old) (bare_faults S.faults source.new) }
+
+    // What was read before a read failed comes to a table, but for a batch and a record at most.
+    ensures read_before { result ≡ READ_FAULT → ReadBeforeOf (stream_query_of (texts words.now)) (bare_left S.left source.old) (bare_left S.left source.new) window_bytes }
     ensures write_fault { result ≡ WRITE_FAULT → Rose (O.faults out.old) (O.faults out.new) }
     ensures quiet { result ≡ TABLE → err.new ≡ err.old }
 
@@ -110,6 +114,7 @@ fn answer_stream<R: Threads + Wait + Sync, S: Source, O: Sink, P: Progress>(
     ensures nothing { IfErr result (λ why. (why ≢ stop.WriteFault) → out.new ≡ out.old) }
     ensures why { IfErr result (TellsOf (stream_query_of (texts words.now)) (bare_left S.left source.old)) }
     ensures read_fault { IfErr result (λ why. why ≡ stop.ReadFault → Rose (bare_faults S.faults source.old) (bare_faults S.faults source.new)) }
+    ensures read_before { IfErr result (λ why. why ≡ stop.ReadFault → ReadBeforeOf (stream_query_of (texts words.now)) (bare_left S.left source.old) (bare_left S.left source.new) window_bytes) }
     ensures write_fault { IfErr result (λ why. why ≡ stop.WriteFault → Rose (O.faults out.old) (O.faults out.new)) }
     ensures some { OnOk result (IsNone (stream_query_of (texts words.now)) → ⊥) }
     ensures unread { IsNone (stream_query_of (texts words.now)) → source.new ≡ source.old }

@@ -22,7 +22,7 @@ skip_of (Ok asked) = asked.skip
 abbrev pub skip_in : Took → ℕ
 skip_in took = skip_of (asked_in took)
 
--- A query is asked for, at most so many rows of the bytes are refused, and a text has what is shown of the table of the others
+-- A query is asked for, at most this many rows of the bytes are refused, and a text has what is shown of the table of the others
 pub record IsGoodShownOf (most : ℕ) (how : How) (asked : Option Query) (bytes text : List ℕ) : Type 0 where
   pub header : List (List ℕ)
   pub rows : List (List (List ℕ))

@@ -102,7 +102,7 @@ pub fn shown_good<R: Threads + Wait + Sync, S: Source, O: Sink, E: Sink, P: Prog
     }
 }
 
-/// Answers the query of these words with its table and its line in memory, leaves out so many refused rows at most, and then
+/// Answers the query of these words with its table and its line in memory, leaves out this many refused rows at most, and then
 /// shows the table so.
 fn show_good<R: Threads + Wait + Sync, S: Source, O: Sink, E: Sink, P: Progress>(
     rt: &R,

@@ -17,6 +17,7 @@ ghost use Rattle.plan_spec.specs.Query.{stream_query_of};
 ghost use Rattle.shown_stream.specs.Ended.{SaysWrong};
 ghost use Rattle.shown_stream.specs.Shown.{IsShownOf, how_in};
 ghost use Rattle.shown_words.specs.Taking.{taken_as};
+ghost use Rattle.stream_groups.specs.Before.{ReadBeforeOf};
 ghost use Rattle.stream_groups.specs.Lines.{line};
 ghost use Rattle.stream_groups.specs.Sources.{bare_faults, bare_left};
 ghost use Rattle.stream_groups.specs.Stops.{TellsOf, stop_says};
@@ -67,6 +68,7 @@ pub fn shown_table<R: Threads + Wait + Sync, S: Source, O: Sink, E: Sink, P: Pro
     ensures why { (result ≢ TABLE) → IfOk (how_in (taken_as taken.now)) (λ _. (why : Stop) × TellsOf (stream_query_of (taken_as taken.now).rest) (bare_left S.left source.old) why × (result ≡ (stop_says why).0)
         × IsSaid (E.taken err.old) (E.taken err.new) (E.faults err.old) (E.faults err.new) (line (stop_says why).1)) }
     ensures read_fault { result ≡ READ_FAULT → Rose (bare_faults S.faults source.old) (bare_faults S.faults source.new) }
+    ensures read_before { result ≡ READ_FAULT → ReadBeforeOf (stream_query_of (taken_as taken.now).rest) (bare_left S.left source.old) (bare_left S.left source.new) window_bytes }
     ensures write_fault { result ≡ WRITE_FAULT → Rose (O.faults out.old) (O.faults out.new) }
     ensures quiet { result ≡ TABLE → err.new ≡ err.old }
 
@@ -112,6 +114,7 @@ fn show_query<R: Threads + Wait + Sync, S: Source, O: Sink, E: Sink, P: Progress
     ensures why { (result ≢ TABLE) → (why : Stop) × TellsOf (stream_query_of (texts words.now)) (bare_left S.left source.old) why × (result ≡ (stop_says why).0)
         × IsSaid (E.taken err.old) (E.taken err.new) (E.faults err.old) (E.faults err.new) (line (stop_says why).1) }
     ensures read_fault { result ≡ READ_FAULT → Rose (bare_faults S.faults source.old) (bare_faults S.faults source.new) }
+    ensures read_before { result ≡ READ_FAULT → ReadBeforeOf (stream_query_of (texts words.now)) (bare_left S.left source.old) (bare_left S.left source.new) window_bytes }
     ensures write_fault { result ≡ WRITE_FAULT → Rose (O.faults out.old) (O.faults out.new) }
     ensures quiet { result ≡ TABLE → err.new ≡ err.old }
     ensures table { result ≡ TABLE → IfSome (bare_left S.left source.old) (λ bytes.
@@ -153,6 +156,7 @@ fn show_kept<R: Threads + Wait + Sync, S: Source, O: Sink, E: Sink, P: Progress>
     ensures why { (result ≢ TABLE) → (why : Stop) × TellsOf (stream_query_of (texts words.now)) (bare_left S.left source.old) why × (result ≡ (stop_says why).0)
         × IsSaid (E.taken err.old) (E.taken err.new) (E.faults err.old) (E.faults err.new) (line (stop_says why).1) }
     ensures read_fault { result ≡ READ_FAULT → Rose (bare_faults S.faults source.old) (bare_faults S.faults source.new) }
+    ensures read_before { result ≡ READ_FAULT → ReadBeforeOf (stream_query_of (texts words.now)) (bare_left S.left source.old) (bare_left S.left source.new) window_bytes }
     ensures write_fault { result ≡ WRITE_FAULT → Rose (O.faults out.old) (O.faults out.new) }
     ensures quiet { result ≡ TABLE → err.new ≡ err.old }
     ensures table { result ≡ TABLE → IfSome (bare_left S.left source.old) (λ bytes.

@@ -1,22 +1,25 @@
 -- What was found of bytes in which the comma and the separator were exchanged, said of the bytes of the input.
-use Rattle.std.proofs.Common.{◌≡◌, ◌+◌, ◌++◌, ◌∷◌, ◌∙◌, ℕ, List, Option, None, Some, IfSome, map, refl, ap, sym, subst}
+use Rattle.std.proofs.Common.{inl, inr, ◌≡◌, ◌+◌, ◌++◌, ◌∷◌, ◌∙◌, ℕ, List, Option, None, Some, IfSome, arith, length, map, refl, ap, sym, subst}
 use Rattle.std.specs.Prelude.{option_map}
-use Rattle.std.proofs.lemmas.List.{map-append}
+use Rattle.std.proofs.lemmas.List.{length-map, map-append}
 use Rattle.csv.specs.Reading.{strip_bom}
 use Rattle.csv_rows.specs.Readings.{IsSeparator, exchanged, records_as, records_in}
 use Rattle.csv_rows.specs.Records.{record_at}
 use Rattle.csv_rows.proofs.Cleaned.{bytes-kept}
 use Rattle.csv_rows.proofs.Exchanges.{reads-exchanged, twice-all}
+use Rattle.par_model.specs.Named.{bound_plan}
 use Rattle.par_model.specs.Outcome.{NoColumn, Outcome, Refused}
 use Rattle.par_model.specs.declared.refusal.Refusal.{Refusal}
 use Rattle.plan_spec.specs.Query.{Query}
 use Rattle.row_blocks.specs.Blocks.{Table}
 use Rattle.row_windows.specs.Seams.{IsLong}
 use Rattle.text_lines.specs.Feeds.{count_feeds}
+use Rattle.stream_groups.specs.Before.{ComesToTable, IsReadBefore, ReadBefore}
 use Rattle.stream_groups.specs.Begins.{PlacesLong, PlacesRow}
 use Rattle.stream_groups.specs.Outcome.{HasLong, outcome, outcome_over}
 use Rattle.stream_groups.specs.Reading.{AreGroupsOver}
 use Rattle.stream_groups.specs.Stops.{Tells}
+use Rattle.stream_groups.specs.Twice.{twice_of}
 use Rattle.stream_groups.specs.Ways.{of_bytes, of_text}
 use Rattle.stream_groups.specs.declared.reading.ReadGroups.{ReadGroups}
 use Rattle.stream_groups.specs.declared.stop.Stop.{Stop}
@@ -67,6 +70,35 @@ module _ (query : Query) (is : IsSeparator query.reading.separator) where
     line = p.line ∙ ap (λ (t : List ℕ). count_feeds t + count_feeds p.ends + 1) (sym (back p.has.front));
     says = p.says;
   }
+
+  -- ---- what was read before a read failed
+
+  same_back : (text : List ℕ) → records_as query.reading text ≡ records_in query.reading (map swap text)
+  same_back text = sym (ap (records_as query.reading) (back text)) ∙ same_records (map swap text)
+
+  table_of_bytes : (front : List ℕ) → ComesToTable (of_text query.reading) query front → ComesToTable (of_bytes query.reading) query (map swap front)
+  table_of_bytes front t = record {
+    has_table = ap (outcome query.plan) (sym (same_back front)) ∙ t.has_table;
+    once = subst (λ (l : Table). twice_of (bound_plan (record_at l 0) query.plan) (record_at l 0) ≡ None) (same_back front) t.once;
+  }
+
+  read_before : (bytes left seen : List ℕ) (most : ℕ) → length seen ≡ length left → IsReadBefore (of_text query.reading) query (map swap bytes) seen most → IsReadBefore (of_bytes query.reading) query bytes left most
+  read_before bytes left seen most size r =
+      let rest = r.back in
+      record {
+        front = map swap r.front;
+        back = map swap rest;
+        are = sym (back bytes) ∙ (ap (map swap) r.are ∙ map-append swap r.front rest);
+        few = omega (arith, length-map rest swap, r.few, size);
+        parts = sym (same_records bytes) ∙ (r.parts ∙ (ap (λ (l : Table). l ++ records_as query.reading rest) (same_back r.front) ∙ ap (λ (l : Table). records_in query.reading (map swap r.front) ++ l) (same_back rest)));
+        whole = elim r.whole [ inl none ↦ inl (sym (same_back r.front) ∙ none) | inr table ↦ inr (table_of_bytes r.front table) ];
+      }
+
+  -- whatever was exchanged in what is left
+  pub before_of_bytes : (old new : Option (List ℕ)) (separator most : ℕ) → ReadBefore (of_text query.reading) query (option_map (map swap) old) (option_map (map (exchanged separator)) new) most → ReadBefore (of_bytes query.reading) query old new most
+  before_of_bytes None new separator most r = tt
+  before_of_bytes (Some bytes) None separator most r = absurd r
+  before_of_bytes (Some bytes) (Some left) separator most r = read_before bytes left (map (exchanged separator) left) most (length-map left (exchanged separator)) r
 
   -- ---- of a source that tells what it had left
 

@@ -1,5 +1,5 @@
 -- The lines of some windows, and their line feeds.
-use Rattle.std.proofs.Common.{◌≡◌, ◌<◌, ◌≤◌, ◌+◌, ◌++◌, ◌∙◌, ℕ, List, [], ◌∷◌, length, take, drop, get_or, map, ap, sym, arith, append-nil, take-append-drop}
+use Rattle.std.proofs.Common.{◌≡◌, ◌<◌, ◌≤◌, ◌+◌, ◌++◌, ◌∙◌, ℕ, List, [], ◌∷◌, length, take, drop, get_or, map, ap, sym, arith, append-nil, length-append, take-append-drop}
 use Rattle.std.specs.List.{concat}
 use Rattle.std.proofs.lemmas.List.{map-append, take_more}
 use Rattle.std.proofs.lemmas.List.Concat.{flat_map-append}
@@ -32,6 +32,11 @@ pub feeds_next : (pieces : List Stretch) (at : ℕ) (p : Stretch) → at < lengt
 feeds_next pieces at p low is =
     let next : take (at + 1) pieces ≡ take at pieces ++ p ∷ [] = take_more pieces at p low ∙ ap (λ (q : Stretch). take at pieces ++ q ∷ []) (sym is) in
     ap feeds_of next ∙ feeds_more (take at pieces) p
+
+pub lines_upto : (pieces : List Stretch) (at : ℕ) (p : Stretch) → at < length pieces → p ≡ get_or pieces at p → length (lines_of (take (at + 1) pieces)) ≡ length (lines_of (take at pieces)) + length p.lines
+lines_upto pieces at p low is =
+    let next : take (at + 1) pieces ≡ take at pieces ++ p ∷ [] = take_more pieces at p low ∙ ap (λ (q : Stretch). take at pieces ++ q ∷ []) (sym is) in
+    ap (λ (ps : List Stretch). length (lines_of ps)) next ∙ (ap length (lines_next (take at pieces) p) ∙ length-append (lines_of (take at pieces)) p.lines)
 
 -- a front has no more than all
 pub feeds_within : (pieces : List Stretch) (at : ℕ) → feeds_of (take at pieces) ≤ feeds_of pieces

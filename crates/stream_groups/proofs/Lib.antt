@@ -1,5 +1,6 @@
 mod AllEnds
 mod Batches
+mod Before
 mod Doubles
 pub mod Exchanged
 pub mod Feeds

@@ -159,7 +159,7 @@ is_not_filled old new old_faults new_faults was now (Err answer.LongRecord) faul
 is_not_filled old new old_faults new_faults was now (Err answer.Memory) fault long = tt
 
 module _ (old new : Option (List ℕ)) (old_faults new_faults : ℕ) (was now : Stretch) where
-  -- What the reason says if so many records and line feeds come before the window. If a record is too long, what was read of
+  -- What the reason says if this many records and line feeds come before the window. If a record is too long, what was read of
   -- it is its rest now, and these are the line feeds that the reason was made with
   pub window_tells : (reading : Reading) (query : Query) (from : Option (List ℕ)) (records : Table) (feeds given row : ℕ) (text : List ℕ) (why : WindowAnswer) (said : Stop) → (records ≡ []) ⊎ (outcome query.plan records ≡ IsTable)
       → HasRead reading from old records feeds was.rest → length records ≡ row → (why ≡ answer.LongRecord → given ≡ feeds) → text ≡ now.rest → IsNotFilled old new old_faults new_faults was now why

@@ -106,7 +106,7 @@ AllCut pieces = All (λ w. IsCut w.lines) pieces
 abbrev pub AreCut : List Stretch → Type 0
 AreCut pieces = (k : ℕ) → k + 1 < length pieces → IsCut (piece_at pieces k).lines
 
--- The place of the record of some lines before which there are so many others; so many line feeds come before the lines. What
+-- The place of the record of some lines before which there are this many others; this many line feeds come before the lines. What
 -- is said of a quote is said only of the last record
 pub record IsPlaceIn (lines : List ℕ) (before : ℕ) (is_last : Bool) (feeds : ℕ) (p : Place) : Type 0 where
   pub at : ℕ

@@ -6,6 +6,7 @@ pub mod Gathering
 pub mod Twice
 pub mod Begins
 pub mod Reading
+pub mod Before
 pub mod Stops
 pub mod Lines
 pub mod Taken

@@ -15,7 +15,7 @@ outcome plan (header ∷ rows) = by_missing plan header rows (missing_name heade
 abbrev pub outcome_over : Way → NamedPlan → List ℕ → Outcome
 outcome_over way plan bytes = outcome plan (way.records bytes)
 
--- After so many records of some bytes begins a record of more bytes than a record may have: from some place on they
+-- After this many records of some bytes begins a record of more bytes than a record may have: from some place on they
 -- have the other records, and begin with some whose text is too long and cannot be cut. The records before it, if there
 -- are any, come to a table of the plan: the header has its columns, and no row is refused
 pub record HasLong (way : Way) (plan : NamedPlan) (bytes : List ℕ) (row : ℕ) : Type 0 where

@@ -31,7 +31,7 @@ use Rattle.stream_groups.specs.declared.reading.Stream.{Stream}
 -- ---- the source, of whose bytes the comma and the separator were exchanged
 
 -- Of a source that had some bytes left and now has others: they are a front, a rest that was read, and what is left. The
--- front has some records and so many line feeds, and ends outside quotes; the records of all bytes are these, and those of
+-- front has some records and this many line feeds, and ends outside quotes; the records of all bytes are these, and those of
 -- the rest and of what is left. If there is a front, the rest begins with the end of a line
 pub record AreRead (reading : Reading) (bytes left : List ℕ) (records : Table) (count : ℕ) (rest : List ℕ) : Type 0 where
   pub front : List ℕ
@@ -56,7 +56,7 @@ HasAll reading from records = IfSome from (λ bytes. records_as reading bytes �
 abbrev pub Begins : Reading → Option (List ℕ) → Table → Type 0
 Begins reading from records = IfSome from (λ bytes. (more : Table) × (records_as reading bytes ≡ records ++ more))
 
--- The lines of some windows are a part of bytes: before them come some records and so many line feeds, which end outside
+-- The lines of some windows are a part of bytes: before them come some records and this many line feeds, which end outside
 -- quotes, and after them other bytes. If there are such bytes, they begin with the end of a line, and the lines of each window
 -- end outside quotes
 pub record ArePart (reading : Reading) (bytes : List ℕ) (records : Table) (count : ℕ) (pieces : List Stretch) (back : List ℕ) : Type 0 where
@@ -109,7 +109,7 @@ pub record HasHeader (header : Table) (w : Stretch) (is_last : Bool) : Type 0 wh
   pub cut : is_last ≡ false → IsCut w.header
   pub next : is_last ≡ false → BeginsLine w.rest
 
--- this is that window with its record, which is the last or not, after so many line feeds and those of the header's line
+-- this is that window with its record, which is the last or not, after this many line feeds and those of the header's line
 pub record IsFirst (w : Stretch) (record_of : Table) (is_last : Bool) (before : ℕ) (f : First) : Type 0 where
   pub window : f.window ≡ w
   pub header : f.header ≡ record_of
@@ -142,8 +142,8 @@ pub record MeetsLong (old new : Option (List ℕ)) (was now : Batch) : Type 0 wh
   pub before : now.before ≡ was.before
   pub feeds : now.feeds ≡ was.feeds
 
--- A batch was filled from a source, from a window on that has the rest of what was read, after so many line feeds: its
--- windows have that one's header, and the records and line feeds of their lines come next
+-- A batch was filled from a source, from a window on that has the rest of what was read, after this many line feeds:
+-- its windows have that one's header, and the records and line feeds of their lines come next
 pub record IsFilledBatch (old new : Option (List ℕ)) (was : Stretch) (feeds : ℕ) (b : Batch) (is_last : Bool) : Type 0 where
   pub before : b.before ≡ feeds
   pub counted : b.feeds ≡ feeds + feeds_of b.pieces.items

@@ -120,7 +120,7 @@ abbrev pub TellsOf : Option Query → Option (List ℕ) → Stop → Type 0
 TellsOf None left why = (why ≡ stop.Usage) ⊎ (why ≡ stop.Memory)
 TellsOf (Some query) left why = Tells (of_bytes query.reading) query left why
 
--- what is said of a record that is too long, of which this text was read, after so many line feeds
+-- what is said of a record that is too long, of which this text was read, after this many line feeds
 pub record SaysOfLong (feeds : ℕ) (text : List ℕ) (at : ℕ) (said : List ℕ) : Type 0 where
   pub place : Place
   pub is : IsPlaceOfLong text feeds place
@@ -131,7 +131,7 @@ pub record SaysOfLong (feeds : ℕ) (text : List ℕ) (at : ℕ) (said : List �
 abbrev pub IsStopOfLong : ℕ → ℕ → List ℕ → Stop → Type 0
 IsStopOfLong row feeds text why = (line : ℕ) × (said : String Global) × (why ≡ stop.LongRecord row line said) × SaysOfLong feeds text line (string_bytes said)
 
--- the reason for a window that was not filled, before which there are so many records and line feeds, or out of memory
+-- the reason for a window that was not filled, after this many records and line feeds, or out of memory
 abbrev pub IsStopOfWindow : WindowAnswer → ℕ → ℕ → List ℕ → Stop → Type 0
 IsStopOfWindow window.ReadFault row feeds text why = why ≡ stop.ReadFault
 IsStopOfWindow window.LongRecord row feeds text why = IsStopOfLong row feeds text why ⊎ (why ≡ stop.Memory)
@@ -157,7 +157,7 @@ SaysOfHeader plan header why = (why ≡ stop.Memory) ⊎ (((said : String Global
 abbrev pub IsRow : Records → ℕ → Records → ℕ → Type 0
 IsRow records number table at = (record_at table 0 ≡ record_at records 0) × (record_at table at ≡ record_at records number)
 
--- A text says of a row of some pieces that it is refused, and in which line it begins; so many line feeds come before their
+-- A text says of a row of some pieces that it is refused, and in which line it begins; this many line feeds come before their
 -- lines. The row is one of a piece, and has the place there that its number among that one's rows says
 pub record SaysOfRow (plan : NamedPlan) (bound : Plan) (pieces : List Stretch) (row feeds : ℕ) (why : Refusal) (begins : ℕ) (said : List ℕ) : Type 0 where
   pub piece : ℕ
@@ -186,7 +186,7 @@ pub record AreOfRow (reading : Reading) (plan : NamedPlan) (bound : Plan) (piece
 abbrev pub IsRefusedRow : Reading → NamedPlan → Plan → List Stretch → ℕ → ℕ → ℕ → Refusal → Stop → Type 0
 IsRefusedRow reading plan bound pieces number row feeds refusal why = (r : RefusedRow) × (why ≡ stop.Refused r) × AreOfRow reading plan bound pieces number row feeds refusal r
 
--- the reason says of an answer on the rows of some pieces, after so many others and line feeds, what the answer says, or is
+-- the reason says of an answer on the rows of some pieces, after this many others and line feeds, what the answer says, or is
 -- out of memory
 abbrev pub Restates : Reading → NamedPlan → Plan → List Stretch → ℕ → ℕ → BlockAnswer → Stop → Type 0
 Restates reading plan bound pieces before feeds (answer.Row row cause item) why = before + row < 2 ^ 64 → IsRefusedRow reading plan bound pieces (before + row) row feeds (record { cause = cause; item = item }) why ⊎ (why ≡ stop.Memory)

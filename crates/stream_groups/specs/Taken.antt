@@ -7,13 +7,13 @@ use Rattle.row_windows.specs.declared.window.WindowAnswer.TheVariants as answer
 use Rattle.stream_groups.specs.declared.taken.Taken.{Taken}
 use Rattle.stream_groups.specs.declared.taken.Taken.TheVariants as taken
 
--- so many bytes more were counted, unless memory lacks for the count
+-- this many bytes more were counted, unless memory lacks for the count
 abbrev pub IsMore : Taken → ℕ → Taken → Type 0
 IsMore was more (taken.Bytes n) = (m : ℕ) × (was ≡ taken.Bytes m) × (n ≡ m + more)
 IsMore was more taken.Fault = was ≡ taken.Fault
 IsMore was more taken.Memory = Unit {0}
 
--- after a window was filled, or not, that had so many bytes of the source and has so many now
+-- after a window was filled, or not, that had this many bytes of the source and has this many now
 abbrev pub IsCountOf : Result Bool WindowAnswer → ℕ → ℕ → Taken → Taken → Type 0
 IsCountOf (Ok is_last) had has was now = (more : ℕ) → has ≡ had + more → IsMore was more now
 IsCountOf (Err answer.LongRecord) had has was now = (more : ℕ) → has ≡ had + more → IsMore was more now

@@ -3,6 +3,7 @@
 ghost use Rattle.std.specs.Prelude.{◌≡◌, ◌<◌, ◌≤◌, ◌+◌, ◌^◌, ◌⊎◌, [], All, Err, IfErr, IfOk, OnOk, length};
 ghost use Rattle.split_run.specs.Pieces.{HaveColumns};
 ghost use Rattle.row_windows.specs.declared.window.WindowAnswer.TheVariants as answer;
+ghost use Rattle.stream_groups.specs.Before.{IsLostBatch, most_of_batch};
 ghost use Rattle.stream_groups.specs.Begins.{IsLined, feeds_of};
 ghost use Rattle.stream_groups.specs.Gathering.{participants_of};
 ghost use Rattle.stream_groups.specs.Reading.{AddsBatch, IsFilledBatch, IsNotFilled};
@@ -35,7 +36,7 @@ pub(crate) struct Added {
 }
 
 /// Adds the rows of a batch and then, if none is refused, fills the one after it, in the caller's thread if there are no
-/// workers. If there are it does both at the same time.
+/// workers. If there are it does both at the same time. The next batch is to have about `size` bytes, a whole one about `whole`.
 pub(crate) fn add_and_fill<R: Threads + Wait + Sync, S: Source>(
     rt: &R,
     alloc: Global,
@@ -44,6 +45,7 @@ pub(crate) fn add_and_fill<R: Threads + Wait + Sync, S: Source>(
     bound: &BoundPlan,
     batch: &Batch,
     added: &mut Added,
+    whole: usize,
     next: &mut Batch,
     source: &mut S,
     size: usize,
@@ -64,6 +66,7 @@ pub(crate) fn add_and_fill<R: Threads + Wait + Sync, S: Source>(
     ensures feeds { IfOk result (λ filled. filled ≡ Err answer.LongRecord → next.new.feeds ≡ next.old.feeds) }
     ensures few_feeds { OnOk result (next.new.feeds ≤ 2 ^ 60) }
     ensures not_filled { IfOk result (λ filled. IfErr filled (IsNotFilled (S.left source.old) (S.left source.new) (S.faults source.old) (S.faults source.new) next.old.next next.new.next)) }
+    ensures lost { IfOk result (λ filled. filled ≡ Err answer.ReadFault → IsLostBatch (S.left source.old) (S.left source.new) next.old.next.rest (most_of_batch size)) }
     ensures why { IfErr result (TellsOfRows plan.now bound.now batch.now added.old) }
     ensures kind { IfErr result (λ why. ((why ≡ stop.ReadFault) ⊎ (why ≡ stop.WriteFault)) → ⊥) }
     ensures faults { S.faults source.old ≤ S.faults source.new }
@@ -71,10 +74,10 @@ pub(crate) fn add_and_fill<R: Threads + Wait + Sync, S: Source>(
 {
     if workers > 0 {
         return add_beside(
-            rt, alloc, plan, workers, bound, batch, added, next, source, size, taken,
+            rt, alloc, plan, workers, bound, batch, added, whole, next, source, size, taken,
         );
     }
-    add_batch(rt, alloc, plan, workers, bound, batch, added, size)?;
+    add_batch(rt, alloc, plan, workers, bound, batch, added, whole)?;
     Ok(next.fill(alloc, source, size, taken))
 }
 
@@ -87,6 +90,7 @@ fn add_beside<R: Threads + Wait + Sync, S: Source>(
     bound: &BoundPlan,
     batch: &Batch,
     added: &mut Added,
+    whole: usize,
     next: &mut Batch,
     source: &mut S,
     size: usize,
@@ -107,6 +111,7 @@ fn add_beside<R: Threads + Wait + Sync, S: Source>(
     ensures feeds { IfOk result (λ filled. filled ≡ Err answer.LongRecord → next.new.feeds ≡ next.old.feeds) }
     ensures few_feeds { OnOk result (next.new.feeds ≤ 2 ^ 60) }
     ensures not_filled { IfOk result (λ filled. IfErr filled (IsNotFilled (S.left source.old) (S.left source.new) (S.faults source.old) (S.faults source.new) next.old.next next.new.next)) }
+    ensures lost { IfOk result (λ filled. filled ≡ Err answer.ReadFault → IsLostBatch (S.left source.old) (S.left source.new) next.old.next.rest (most_of_batch size)) }
     ensures why { IfErr result (TellsOfRows plan.now bound.now batch.now added.old) }
     ensures kind { IfErr result (λ why. ((why ≡ stop.ReadFault) ⊎ (why ≡ stop.WriteFault)) → ⊥) }
     ensures faults { S.faults source.old ≤ S.faults source.new }
@@ -123,13 +128,14 @@ fn add_beside<R: Threads + Wait + Sync, S: Source>(
         ensures added { OnOk result (AddsBatch bound.entry.now batch.entry.now added.entry.now added.exit.now) }
         ensures why { IfErr result (TellsOfRows plan.entry.now bound.entry.now batch.entry.now added.entry.now) }
         ensures kind { IfErr result (λ why. ((why ≡ stop.ReadFault) ⊎ (why ≡ stop.WriteFault)) → ⊥) }
-    { add_batch(rt, alloc, plan, workers, bound, batch, added, size) };
+    { add_batch(rt, alloc, plan, workers, bound, batch, added, whole) };
     let mut read = || -> Result<bool, WindowAnswer>
         requires next { next.now.next.lines ≡ [] }
         requires start { next.now.feeds ≡ next.now.before }
         requires few_feeds { next.now.feeds ≤ 2 ^ 60 }
         ensures filled { IfOk result (IsFilledBatch (S.left source.entry.now) (S.left source.exit.now) next.entry.now.next next.entry.now.before next.exit.now) }
         ensures why { IfErr result (IsNotFilled (S.left source.entry.now) (S.left source.exit.now) (S.faults source.entry.now) (S.faults source.exit.now) next.entry.now.next next.exit.now.next) }
+        ensures lost { result ≡ Err answer.ReadFault → IsLostBatch (S.left source.entry.now) (S.left source.exit.now) next.entry.now.next.rest (most_of_batch size) }
         ensures feeds { result ≡ Err answer.LongRecord → next.exit.now.feeds ≡ next.entry.now.feeds }
         ensures few_feeds { next.exit.now.feeds ≤ 2 ^ 60 }
         ensures faults { S.faults source.entry.now ≤ S.faults source.exit.now }
@@ -140,7 +146,7 @@ fn add_beside<R: Threads + Wait + Sync, S: Source>(
     Ok(filling)
 }
 
-/// Adds the rows of a batch, which has about this many bytes.
+/// Adds the rows of a batch. A whole one has about this many bytes.
 pub(crate) fn add_batch<R: Threads + Wait + Sync>(
     rt: &R,
     alloc: Global,
@@ -149,7 +155,7 @@ pub(crate) fn add_batch<R: Threads + Wait + Sync>(
     bound: &BoundPlan,
     batch: &Batch,
     added: &mut Added,
-    size: usize,
+    whole: usize,
 ) -> Result<(), Stop>
     requires pieces { length batch.now.pieces.items ≤ 64 }
     requires lines { All (IsLined plan.now.reading) batch.now.pieces.items }
@@ -164,7 +170,7 @@ pub(crate) fn add_batch<R: Threads + Wait + Sync>(
 {
     let old = mem::replace(&mut added.gathered, Gathered::Near(Vec::new(alloc)));
     let pieces = batch.pieces.as_slice();
-    let (new, more) = match old.add_pieces(rt, alloc, pieces, bound, size) {
+    let (new, more) = match old.add_pieces(rt, alloc, pieces, bound, whole) {
         Ok(done) => done,
         Err(why) => {
             let stop = stop_of_block(alloc, plan, bound, pieces, added.count, batch.before, why);

@@ -1,7 +1,10 @@
 //! A batch of windows, of which each is a piece for one participant: how it is filled.
 
-ghost use Rattle.std.specs.Prelude.{◌≡◌, ◌≤◌, ◌+◌, ◌^◌, ◌∷◌, [], Err, IfErr, IfOk, OnOk};
+ghost use Rattle.std.specs.Prelude.{◌≡◌, ◌≤◌, ◌+◌, ◌-◌, ◌^◌, ◌∷◌, [], Err, IfErr, IfOk, OnOk, length, min};
 ghost use Rattle.par_io.specs.Faults.{Rose};
+ghost use Rattle.row_windows.specs.Stretch.{IsLostWindow};
+ghost use Rattle.stream_groups.specs.Before.{IsLostBatch, most_of_batch};
+ghost use Rattle.stream_groups.specs.Begins.{lines_of};
 ghost use Rattle.stream_groups.specs.Reading.{AddsPiece, IsFilledBatch, IsLike, IsNotFilled, MeetsLong};
 ghost use Rattle.stream_groups.specs.Taken.{Takes};
 ghost use Rattle.text_lines.specs.Feeds.{count_feeds};
@@ -18,10 +21,13 @@ use std::mem;
 /// The most pieces of a batch: each has the same part of its bytes.
 const MOST_PIECES: usize = 64;
 
-/// A window repeats the header's line: so many times its bytes are to be lines, unless the batch has fewer.
+/// The first batch after the header's has this part of a whole one's bytes.
+const FIRST_PART: usize = 4;
+
+/// A window repeats the header's line: this many times its bytes are to be lines, unless the batch has fewer.
 const TIMES_HEADER: usize = 4;
 
-/// A window has at least as many bytes as the header's line, up to so many: these never have more rows than a store takes.
+/// A window has at least as many bytes as the header's line, up to this many: these never have more rows than a store takes.
 const MOST_FOR_HEADER: usize = 8_000_000;
 
 /// The most line feeds of a source: 2^60. A source with more of them is answered as out of memory.
@@ -48,7 +54,7 @@ impl Batch {
         }
     }
 
-    /// A batch of one window, before the lines of which there are so many line feeds.
+    /// A batch of one window, before the lines of which there are this many line feeds.
     pub(crate) fn of_window(alloc: Global, window: Window, before: u64) -> Result<Batch, AllocError>
         requires { before ≤ 2 ^ 60 }
         ensures before { IfOk result (λ b. b.before ≡ before) }
@@ -87,7 +93,9 @@ impl Batch {
     }
 
     /// The bytes of its windows, each with the header's line.
-    pub(crate) fn bytes(&self) -> u64 {
+    pub(crate) fn bytes(&self) -> u64
+        ensures { min (length (lines_of self.now.pieces.items)) (2 ^ 64 - 1) ≤ result }
+    {
         let mut bytes = 0u64;
         for piece in self.pieces.as_slice() {
             bytes = bytes.saturating_add(piece.table().len() as u64);
@@ -110,6 +118,7 @@ impl Batch {
         requires few { self.old.feeds ≤ 2 ^ 60 }
         ensures filled { IfOk result (IsFilledBatch (S.left source.old) (S.left source.new) self.old.next self.old.before self.new) }
         ensures why { IfErr result (IsNotFilled (S.left source.old) (S.left source.new) (S.faults source.old) (S.faults source.new) self.old.next self.new.next) }
+        ensures lost { result ≡ Err answer.ReadFault → IsLostBatch (S.left source.old) (S.left source.new) self.old.next.rest (most_of_batch size) }
         ensures feeds { result ≡ Err answer.LongRecord → self.new.feeds ≡ self.old.feeds }
         ensures few_feeds { self.new.feeds ≤ 2 ^ 60 }
         ensures faults { S.faults source.old ≤ S.faults source.new }
@@ -151,6 +160,7 @@ impl Batch {
         ensures long { result ≡ Err answer.LongRecord → MeetsLong (S.left source.old) (S.left source.new) self.old self.new }
         ensures few_feeds { self.new.feeds ≤ 2 ^ 60 }
         ensures read_fault { result ≡ Err answer.ReadFault → Rose (S.faults source.old) (S.faults source.new) }
+        ensures lost { result ≡ Err answer.ReadFault → IsLostWindow (S.left source.old) (S.left source.new) self.old.next }
         ensures faults { S.faults source.old ≤ S.faults source.new }
         ensures taken { Takes (S.left source.old) (S.left source.new) (S.faults source.old) (S.faults source.new) taken.old taken.new }
     {
@@ -176,6 +186,15 @@ impl Batch {
         }
         Ok(last)
     }
+}
+
+/// How many bytes the batch after this one is to have if a whole one has this many. The first ones have fewer, and each more
+/// than the one before it: so threads begin early, and few rows are added before it shows whether their groups are many.
+pub(crate) fn size_after(batch: &Batch, whole: usize) -> usize
+    ensures { result ≤ whole }
+{
+    let twice = (batch.bytes() as usize).saturating_mul(2);
+    whole.min(twice.max(whole / FIRST_PART))
 }
 
 /// The bytes that the next window is to have: a part of the batch's, but not few compared with those that it repeats, or

@@ -8,8 +8,12 @@ ghost use Rattle.csv_rows.specs.Records.{record_at};
 ghost use Rattle.csv_rows.specs.declared.records.RowsAnswer.TheVariants as parsing;
 ghost use Rattle.par_io.specs.Faults.{Rose};
 ghost use Rattle.row_blocks.specs.Blocks.{Table};
+ghost use Rattle.row_windows.specs.Stretch.{IsLostWindow};
+ghost use Rattle.row_windows.specs.declared.window.TheConstants.{MOST_RECORD_BYTES};
+ghost use Rattle.row_windows.specs.declared.window.WindowAnswer.TheVariants as answer;
 ghost use Rattle.split_run.specs.Pieces.{piece_records};
 ghost use Rattle.text_lines.specs.Feeds.{count_feeds};
+ghost use Rattle.stream_groups.specs.Before.{ReadBefore};
 ghost use Rattle.stream_groups.specs.Begins.{IsLined};
 ghost use Rattle.stream_groups.specs.Reading.{HasHeader, HasPart, IsFilled, IsFirst, IsLike, IsNotFilled, Reaches};
 ghost use Rattle.stream_groups.specs.Stops.{IsStopOfLong, IsStopOfWindow, SaysOfLong, Tells};
@@ -69,6 +73,7 @@ pub fn first_window<R: Wait, S: Source>(
     ensures taken { Takes (S.left source.old) (S.left source.new) (S.faults source.old) (S.faults source.new) taken.old taken.new }
     ensures why { IfErr result (λ why. (query : _) → Tells (of_text reading.now) query (S.left source.old) why) }
     ensures read_fault { IfErr result (λ why. why ≡ stop.ReadFault → Rose (S.faults source.old) (S.faults source.new)) }
+    ensures read_before { IfErr result (λ why. why ≡ stop.ReadFault → (query : _) → ReadBefore (of_text reading.now) query (S.left source.old) (S.left source.new) (MOST_RECORD_BYTES + 1)) }
     ensures faults { S.faults source.old ≤ S.faults source.new }
     ensures no_write { IfErr result (λ why. (why ≡ stop.WriteFault) → ⊥) }
 {
@@ -91,7 +96,7 @@ pub fn first_window<R: Wait, S: Source>(
     unreachable!()
 }
 
-/// The first window that has a record, which is the header's. So many line feeds come before that one's line.
+/// The first window that has a record, which is the header's. This many line feeds come before that one's line.
 fn first_of(window: Window, header: RowStore, is_last: bool, feeds: u64) -> Result<First, Stop>
     requires { feeds ≤ 2 ^ 60 }
     ensures first { IfOk result (IsFirst window header is_last feeds) }
@@ -106,7 +111,7 @@ fn first_of(window: Window, header: RowStore, is_last: bool, feeds: u64) -> Resu
     })
 }
 
-/// So many line feeds and those of some bytes, unless they are too many.
+/// This many line feeds and those of some bytes, unless they are too many.
 pub fn more_feeds(feeds: u64, bytes: &[u8]) -> Result<u64, AllocError>
     requires { feeds ≤ 2 ^ 60 }
     ensures more { IfOk result (λ more. more ≡ feeds + count_feeds bytes.now) }
@@ -142,6 +147,7 @@ pub(crate) fn fill<S: Source>(
     requires { window.old.lines ≡ [] }
     ensures filled { IfOk result (IsFilled (S.left source.old) (S.left source.new) window.old window.new) }
     ensures why { IfErr result (IsNotFilled (S.left source.old) (S.left source.new) (S.faults source.old) (S.faults source.new) window.old window.new) }
+    ensures lost { result ≡ Err answer.ReadFault → IsLostWindow (S.left source.old) (S.left source.new) window.old }
     ensures faults { S.faults source.old ≤ S.faults source.new }
     ensures taken { Takes (S.left source.old) (S.left source.new) (S.faults source.old) (S.faults source.new) taken.old taken.new }
 {
@@ -151,7 +157,7 @@ pub(crate) fn fill<S: Source>(
     filled
 }
 
-/// The reason for a window that was not filled, before which there are so many records and line feeds: what was read of it,
+/// The reason for a window that was not filled, before which there are this many records and line feeds: what was read of it,
 /// if a record is too long, is this text.
 pub fn stop_of_window(alloc: Global, why: WindowAnswer, row: u64, feeds: u64, text: &[u8]) -> Stop
     requires { feeds ≤ 2 ^ 60 }

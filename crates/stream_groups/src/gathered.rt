@@ -18,16 +18,19 @@ use std::alloc::{AllocError, Global};
 use std::sync::Wait;
 use std::thread::Threads;
 
-/// Keys are parted when a participant has a group for so many bytes of a batch: 4,096 groups by the program.
+/// Keys are parted when a participant has a group for this many bytes of a batch: 4,096 groups by the program.
 const BYTES_FOR_GROUP: usize = 1024;
 
-/// But only if the batch had fewer rows for each new group.
-const FEWEST_ROWS: u64 = 3;
+/// But only if the batch had fewer halves of a row than this for each new group.
+const FEWEST_HALVES: u64 = 6;
 
-/// The rows that wait are grouped when they have the bytes of so many batches: 16 MiB by the program.
-const MOST_BATCHES: usize = 4;
+/// The same for a batch that is not whole: of few rows fewer repeat a key.
+const FEWEST_AT_FIRST: u64 = 3;
 
-/// But only if they have so many bytes for each group that there is.
+/// The rows that wait are grouped when they have the bytes of this many batches: 24 MiB by the program.
+const MOST_BATCHES: usize = 6;
+
+/// But only if they have this many bytes for each group that there is.
 const BYTES_EACH: usize = 32;
 
 /// The groups of all rows so far: in maps of the participants, which share the rows, or in maps of the parts of the keys.
@@ -46,8 +49,8 @@ impl Gathered {
         }
     }
 
-    /// Adds the rows of the pieces of a batch, which has about this many bytes, and gives their number. If a row is refused
-    /// the groups are lost.
+    /// Adds the rows of the pieces of a batch, and gives their number. A whole batch has about this many bytes. If a row is
+    /// refused the groups are lost.
     pub(crate) fn add_pieces<R: Threads + Wait + Sync>(
         self,
         rt: &R,
@@ -97,7 +100,8 @@ fn add_near<R: Threads + Wait + Sync>(
         Ok(done) => done,
         Err(why) => return Err(why),
     };
-    if may_part(bound, &maps) && are_many(&maps, before, more, size) {
+    let fewest = fewest_halves(pieces, size);
+    if may_part(bound, &maps) && are_many(&maps, before, more, fewest, size) {
         let Ok(parts) = Parts::begin(rt, alloc, maps) else {
             return Err(BlockAnswer::Memory);
         };
@@ -146,14 +150,28 @@ pub fn may_part(bound: &BoundPlan, maps: &[GroupMap]) -> bool
     !maps.is_empty() && !bound.group_columns().is_empty()
 }
 
-/// Whether groups are so many that parts pay, after a batch of about this many bytes and of so many rows: before it there
-/// were so many groups in all maps.
-fn are_many(maps: &[GroupMap], before: usize, rows: u64, size: usize) -> bool {
+/// Whether there are enough groups that parts pay, after a batch of this many rows: before it there were this many groups in all
+/// maps. A batch that shows it has fewer than `fewest` halves of a row for each new group. A whole batch has about `size` bytes.
+fn are_many(maps: &[GroupMap], before: usize, rows: u64, fewest: u64, size: usize) -> bool {
     let new = all_groups(maps).saturating_sub(before) as u64;
-    most_groups(maps) >= size / BYTES_FOR_GROUP && rows < new.saturating_mul(FEWEST_ROWS)
+    most_groups(maps) >= size / BYTES_FOR_GROUP
+        && rows.saturating_mul(2) < new.saturating_mul(fewest)
 }
 
-/// Whether so many rows wait that they are to be grouped.
+/// How many halves of a row there are to be for each new group of a batch of these pieces, so that parts do not pay.
+fn fewest_halves(pieces: &[Window], size: usize) -> u64 {
+    let mut bytes = 0usize;
+    for piece in pieces {
+        bytes = bytes.saturating_add(piece.table().len());
+    }
+    if bytes < size {
+        FEWEST_AT_FIRST
+    } else {
+        FEWEST_HALVES
+    }
+}
+
+/// Whether enough rows wait to be grouped now.
 fn wait_long(parts: &Parts, size: usize) -> bool {
     let each = (parts.groups() as usize).saturating_mul(BYTES_EACH);
     parts.waiting() > size.saturating_mul(MOST_BATCHES).max(each)

@@ -4,6 +4,7 @@ ghost use Rattle.std.specs.Prelude.{◌≡◌, ◌≤◌, IfErr, IfOk, OnOk, map
 ghost use Rattle.std.specs.Io.KnownBytes.{IsAtEnd};
 ghost use Rattle.csv_rows.specs.Readings.{exchanged};
 ghost use Rattle.par_io.specs.Faults.{Rose};
+ghost use Rattle.stream_groups.specs.Before.{ReadBefore, most_of_batch};
 ghost use Rattle.stream_groups.specs.Reading.{AreGroupsOver};
 ghost use Rattle.stream_groups.specs.Sources.{bare_faults, bare_left, exchanged_left};
 ghost use Rattle.stream_groups.specs.Stops.{Tells};
@@ -38,6 +39,7 @@ pub fn read_input<R: Threads + Wait + Sync, S: Source, P: Progress>(
     ensures groups { IfOk result (AreGroupsOver (of_bytes plan.now.reading) plan.now (bare_left S.left source.old)) }
     ensures why { IfErr result (Tells (of_bytes plan.now.reading) plan.now (bare_left S.left source.old)) }
     ensures read_fault { IfErr result (λ why. why ≡ stop.ReadFault → Rose (bare_faults S.faults source.old) (bare_faults S.faults source.new)) }
+    ensures read_before { IfErr result (λ why. why ≡ stop.ReadFault → ReadBefore (of_bytes plan.now.reading) plan.now (bare_left S.left source.old) (bare_left S.left source.new) (most_of_batch size)) }
     ensures no_write { IfErr result (λ why. (why ≡ stop.WriteFault) → ⊥) }
 
     // What is left of the source, with the comma and the separator exchanged, and how many bytes it gave.

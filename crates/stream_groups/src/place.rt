@@ -16,7 +16,7 @@ pub struct Place {
     pub quote: String,
 }
 
-/// The place of the record of some lines before which there are so many others. So many line feeds come before these lines.
+/// The place of the record of some lines before which there are this many others. This many line feeds come before these lines.
 pub fn place_in_lines(
     alloc: Global,
     lines: &[u8],
@@ -36,7 +36,7 @@ pub fn place_in_lines(
     Ok(Place { line, quote })
 }
 
-/// The place of a record that is too long: the text begins with it, after ends of lines. So many line feeds come before the
+/// The place of a record that is too long: the text begins with it, after ends of lines. This many line feeds come before the
 /// text.
 pub(crate) fn place_of_long(alloc: Global, text: &[u8], feeds: u64) -> Result<Place, AllocError>
     requires few { feeds ≤ 2 ^ 60 }

@@ -6,6 +6,7 @@ ghost use Rattle.csv_rows.specs.Records.{record_at};
 ghost use Rattle.par_io.specs.Faults.{Rose};
 ghost use Rattle.row_blocks.specs.Blocks.{Table};
 ghost use Rattle.text_lines.specs.Feeds.{count_feeds};
+ghost use Rattle.stream_groups.specs.Before.{ReadBefore, most_of_batch};
 ghost use Rattle.stream_groups.specs.Begins.{IsLined};
 ghost use Rattle.stream_groups.specs.Reading.{AreGroupsOver, HasHeader, HasPart, HasRows, IsBound, IsStream, Reaches};
 ghost use Rattle.split_run.specs.Pieces.{piece_records};
@@ -15,7 +16,7 @@ ghost use Rattle.stream_groups.specs.Ways.{of_text};
 ghost use Rattle.stream_groups.specs.declared.stop.Stop.TheVariants as stop;
 
 use crate::adding::{Added, add_and_fill, add_batch};
-use crate::batch::Batch;
+use crate::batch::{Batch, size_after};
 use crate::filling::{First, first_window, header_line, stop_of_window};
 use crate::gathered::Gathered;
 use crate::progress::{Progress, SoFar};
@@ -72,6 +73,7 @@ pub fn read_groups<R: Threads + Wait + Sync, S: Source, P: Progress>(
     ensures groups { IfOk result (AreGroupsOver (of_text plan.now.reading) plan.now (S.left source.old)) }
     ensures why { IfErr result (Tells (of_text plan.now.reading) plan.now (S.left source.old)) }
     ensures read_fault { IfErr result (λ why. why ≡ stop.ReadFault → Rose (S.faults source.old) (S.faults source.new)) }
+    ensures read_before { IfErr result (λ why. why ≡ stop.ReadFault → ReadBefore (of_text plan.now.reading) plan.now (S.left source.old) (S.left source.new) (most_of_batch size)) }
     ensures no_write { IfErr result (λ why. (why ≡ stop.WriteFault) → ⊥) }
 
     // What is left of the source, and how many bytes it gave.
@@ -166,6 +168,8 @@ fn next_window<R: Threads + Wait + Sync, S: Source>(
         → (all : Table) × HasRows plan.now.reading bound.now from (S.left source.new) s all) }
     ensures why { IfErr result (λ why. (from : Option (List ℕ)) (rows : Table) → HasRows plan.now.reading bound.now from (S.left source.old) stream rows → Tells (of_text plan.now.reading) plan.now from why) }
     ensures read_fault { IfErr result (λ why. why ≡ stop.ReadFault → Rose (S.faults source.old) (S.faults source.new)) }
+    ensures read_before { IfErr result (λ why. why ≡ stop.ReadFault → (from : Option (List ℕ)) (rows : Table) → HasRows plan.now.reading bound.now from (S.left source.old) stream rows
+        → ReadBefore (of_text plan.now.reading) plan.now from (S.left source.new) (most_of_batch size)) }
     ensures faults { S.faults source.old ≤ S.faults source.new }
     ensures no_write { IfErr result (λ why. (why ≡ stop.WriteFault) → ⊥) }
     ensures end { IfOk result (λ s. s.is_last ≡ true → IsAtEnd (S.left source.new)) }
@@ -179,8 +183,10 @@ fn next_window<R: Threads + Wait + Sync, S: Source>(
         mut added,
     } = stream;
     spare.follow(&batch)?;
+    let next_size = size_after(&batch, size);
     let filled = add_and_fill(
-        rt, alloc, plan, workers, bound, &batch, &mut added, &mut spare, source, size, taken,
+        rt, alloc, plan, workers, bound, &batch, &mut added, size, &mut spare, source, next_size,
+        taken,
     )?;
     let is_last = match filled {
         Ok(is_last) => is_last,

@@ -61,7 +61,7 @@ pub(crate) fn find_row(alloc: Global, pieces: &[Window], row: u64) -> Result<Fou
     Err(AllocError)
 }
 
-/// The place of a row in a piece of so many rows, before which there are others, if it is there.
+/// The place of a row in a piece of this many rows, before which there are others, if it is there.
 fn place_in(row: u64, before: u64, count: u64) -> Option<u64>
     ensures place { IfSome result (λ at. before + at ≡ row) }
     ensures some { IfSome result (λ at. 1 ≤ at) }

@@ -44,7 +44,7 @@ pub fn bind(alloc: Global, plan: &Plan, store: &RowStore) -> Result<BoundPlan, S
     }
 }
 
-/// The reason for an answer on the rows of some windows, before which there are so many rows and line feeds.
+/// The reason for an answer on the rows of some windows, before which there are this many rows and line feeds.
 pub(crate) fn stop_of_block(
     alloc: Global,
     plan: &Plan,
@@ -138,7 +138,7 @@ struct RowSaid {
     text: String,
 }
 
-/// What the line says of a row of some windows that is refused. So many line feeds come before their lines.
+/// What the line says of a row of some windows that is refused. This many line feeds come before their lines.
 fn says_of_row(
     alloc: Global,
     plan: &Plan,

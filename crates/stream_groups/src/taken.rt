@@ -14,7 +14,7 @@ pub enum Taken {
 }
 
 impl Taken {
-    /// The same and what was read for a window, which had so many bytes of the source before.
+    /// The same and what was read for a window, which had this many bytes of the source before.
     pub(crate) fn after_filling(
         self,
         filled: &Result<bool, WindowAnswer>,
@@ -41,7 +41,7 @@ impl Taken {
         }
     }
 
-    /// The same and more, if a window that had so many bytes of the source has so many now.
+    /// The same and more, if a window that had this many bytes of the source has this many now.
     fn after(self, had: usize, has: usize) -> Taken
         ensures { (more : ℕ) → has ≡ had + more → IsMore self more result }
     {

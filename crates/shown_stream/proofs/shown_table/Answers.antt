@@ -18,6 +18,9 @@ returns-in-Ok-Ok-clause-why g c = λ no.
     let it = c.in-Ok-Ok in
     ok_of _ (how_in (taken_as c.args.taken.now)) it.how (rw it.field-0-is at it.ensures) (rw c.as_slice.ensures.value at c.show_query.ensures.why no)
 
+pub returns-in-Ok-Ok-clause-read_before : goal.returns-in-Ok-Ok-clause-read_before
+returns-in-Ok-Ok-clause-read_before g c = λ is. rw c.as_slice.ensures.value at c.show_query.ensures.read_before is
+
 pub returns-in-Ok-Ok-clause-table : goal.returns-in-Ok-Ok-clause-table
 returns-in-Ok-Ok-clause-table g c = λ is.
     let it = c.in-Ok-Ok in

@@ -6,14 +6,17 @@ use Rattle.csv_rows.specs.declared.cleaning.Reading.{Reading}
 use Rattle.par_io.specs.Faults.{Rose}
 use Rattle.row_blocks.specs.Blocks.{Table}
 use Rattle.row_windows.specs.Stretch.{Stretch}
+use Rattle.row_windows.specs.declared.window.TheConstants.{MOST_RECORD_BYTES}
 use Rattle.split_run.specs.Pieces.{piece_records}
 use Rattle.text_lines.specs.Feeds.{count_feeds}
 use Rattle.text_lines.proofs.Counts.{count_append}
+use Rattle.stream_groups.specs.Before.{IsLostBatch}
 use Rattle.stream_groups.specs.Begins.{IsLined}
 use Rattle.stream_groups.specs.Reading.{HasAll, HasHeader, HasPart, HasRead, Reaches}
 use Rattle.stream_groups.specs.Stops.{Tells}
 use Rattle.stream_groups.specs.Ways.{of_text}
 use Rattle.stream_groups.specs.declared.stop.Stop.TheVariants as stop
+use Rattle.stream_groups.proofs.Before.{lost_window, read_before, window_fault_is}
 use Rattle.stream_groups.proofs.Refusals.{none_tells}
 use Rattle.stream_groups.proofs.Streams.{first_has, first_header, first_part, parted_begins}
 use Rattle.stream_groups.proofs.Takes.{takes_none, takes_then}
@@ -53,6 +56,15 @@ returns-in-Err-clause-read_fault g c = λ e.
     window_fault (g.S.Source.left old) (g.S.Source.left new) (g.S.Source.faults old) (g.S.Source.faults new) c.loop.window c.fill.new.window 0 c.loop.feeds c.rest.result.now c.in-Err.why c.stop_of_window.result c.in-Err.ensures.why
     c.stop_of_window.ensures e in
     search rules
+
+pub returns-in-Err-clause-read_before : goal.returns-in-Err-clause-read_before
+returns-in-Err-clause-read_before g c = λ e query.
+    let from = g.S.Source.left c.args.source.now in
+    let old = g.S.Source.left c.loop.source in
+    let new = g.S.Source.left c.fill.new.source in
+    let fault = window_fault_is 0 c.loop.feeds c.rest.result.now c.in-Err.why c.stop_of_window.result c.stop_of_window.ensures e in
+    let lost : IsLostBatch old new c.loop.window.rest (MOST_RECORD_BYTES + 1) = lost_window old new c.loop.window (c.in-Err.ensures.lost (ap Err fault)) in
+    read_before c.args.reading.now query from old new [] c.loop.feeds c.loop.window.rest (MOST_RECORD_BYTES + 1) c.loop.invariant.read lost (inl refl)
 
 pub returns-in-Err-clause-no_write : goal.returns-in-Err-clause-no_write
 returns-in-Err-clause-no_write g c = window_no_write 0 c.loop.feeds c.rest.result.now c.in-Err.why c.stop_of_window.result c.stop_of_window.ensures
@@ -143,6 +155,10 @@ returns-in-Ok-part_header-clause-no_write g c =
 pub returns-in-Ok-part_header-clause-end : goal.returns-in-Ok-part_header-clause-end
 returns-in-Ok-part_header-clause-end g c =
     IfOk-weaker c.first_of.result _ _ (λ f first last. (c.in-Ok.ensures.filled.last (sym first.last ∙ last)).1) c.first_of.ensures.first
+
+pub returns-in-Ok-part_header-clause-read_before : goal.returns-in-Ok-part_header-clause-read_before
+returns-in-Ok-part_header-clause-read_before g c =
+    IfErr-weaker c.first_of.result _ _ (λ why memory e. let bad : stop.Memory ≡ stop.ReadFault = sym memory ∙ e in cc bad) c.first_of.ensures.why
 
 -- ---- one without a record
 

@@ -1,12 +1,17 @@
-use Rattle.std.proofs.Common.{inr, ◌≡◌, ◌+◌, ◌++◌, ◌∷◌, ◌∙◌, ℕ, Bool, Err, List, Option, Result, IfErr, IfOk, ap, arith, length, rules, subst, sym}
+use Rattle.std.proofs.Common.{inr, ◌≡◌, ◌+◌, ◌++◌, ◌∷◌, ◌∙◌, ℕ, Bool, Err, List, None, Option, Result, IfErr, IfOk, ap, arith, length, rules, subst, sym}
 use Rattle.csv_rows.specs.Records.{record_at}
+use Rattle.par_model.specs.Named.{bound_plan}
+use Rattle.par_model.specs.Plan.{Plan}
 use Rattle.row_blocks.specs.Blocks.{Table}
 use Rattle.row_windows.specs.declared.window.WindowAnswer.{WindowAnswer}
 use Rattle.row_windows.specs.declared.window.WindowAnswer.TheVariants as answer
 use Rattle.split_run.specs.Pieces.{rows_of}
+use Rattle.stream_groups.specs.Before.{IsLostBatch, most_of_batch}
 use Rattle.stream_groups.specs.Reading.{HasRead, HasRows, IsFilledBatch, IsNotFilled}
 use Rattle.stream_groups.specs.Stops.{Tells}
+use Rattle.stream_groups.specs.Twice.{twice_of}
 use Rattle.stream_groups.specs.Ways.{of_text}
+use Rattle.stream_groups.proofs.Before.{before_more, read_before, window_fault_is}
 use Rattle.stream_groups.proofs.Gathering.{all_accepted}
 use Rattle.stream_groups.proofs.Refusals.{accepted_table, begins, have_columns}
 use Rattle.stream_groups.proofs.Streams.{next_header, next_part, next_reaches}
@@ -75,6 +80,29 @@ returns-in-Err-clause-read_fault g c = λ e.
     let is : IsNotFilled old new old_faults new_faults was now.next c.in-Err.why =
     subst (λ (r : Result Bool WindowAnswer). IfErr r (IsNotFilled old new old_faults new_faults was now.next)) c.in-Err.is c.in_ok-filled.ensures.not_filled in
     window_fault old new old_faults new_faults was now.next (c.add_and_fill.new.added.count + 1) now.feeds c.rest-text.result.now c.in-Err.why c.stop_of_window.result is c.stop_of_window.ensures e
+
+pub returns-in-Err-clause-read_before : goal.returns-in-Err-clause-read_before
+returns-in-Err-clause-read_before g c = λ e from rows has.
+    let s = c.args.stream in
+    let old = g.S.Source.left c.args.source.now in
+    let new = g.S.Source.left c.add_and_fill.new.source in
+    let query = c.args.plan.now in
+    let reading = query.reading in
+    let bound = c.args.bound.now in
+    let header = record_at s.header 0 in
+    let all = rows ++ rows_of s.batch.pieces.items in
+    let was = c.follow.new.self.next in
+    let now = c.add_and_fill.new.next in
+    let fault = window_fault_is (c.add_and_fill.new.added.count + 1) now.feeds c.rest-text.result.now c.in-Err.why c.stop_of_window.result c.stop_of_window.ensures e in
+    let size = c.size_after-next_size.result in
+    let lost : IsLostBatch old new was.rest (most_of_batch size) = c.in_ok-filled.ensures.lost (c.in-Err.is ∙ ap Err fault) in
+    let read : HasRead reading from old (header ∷ all) s.batch.feeds was.rest = subst (HasRead reading from old (header ∷ all) s.batch.feeds) (sym c.in_ok-follow.ensures.rest) (has.reaches.more c.requires.more) in
+    let added = c.in_ok-filled.ensures.added.rows header rows c.requires.stream.batch.pieces has.added in
+    let is = c.requires.stream.bound in
+    let once : twice_of (bound_plan header query.plan) header ≡ None = subst (λ (p : Plan). twice_of p header ≡ None) is.is is.once in
+    let table = accepted_table query header bound is all (all_accepted bound (length header) all c.add_and_fill.new.added.gathered added.groups) in
+    before_more (of_text reading) query from new (most_of_batch size) (most_of_batch c.args.size) (omega (arith, c.size_after-next_size.ensures))
+    (read_before reading query from old new (header ∷ all) s.batch.feeds was.rest (most_of_batch size) read lost (inr (table, once)))
 
 pub returns-in-Err-clause-no_write : goal.returns-in-Err-clause-no_write
 returns-in-Err-clause-no_write g c =

@@ -1,12 +1,16 @@
-use Rattle.std.proofs.Common.{[], ◌<◌, ◌+◌, ◌∷◌, ◌∙◌, arith, length, rules, subst, sym}
+use Rattle.std.proofs.Common.{[], ◌<◌, ◌+◌, ◌∷◌, ◌≡◌, ◌∙◌, arith, length, rules, subst, sym}
 use Rattle.csv_rows.specs.Records.{record_at}
 use Rattle.csv_rows.specs.declared.cleaning.Reading.{Reading}
+use Rattle.row_windows.specs.declared.window.TheConstants.{MOST_RECORD_BYTES}
 use Rattle.split_run.specs.Pieces.{piece_records, piece_rows}
 use Rattle.text_lines.specs.Feeds.{count_feeds}
+use Rattle.stream_groups.specs.Before.{ReadBefore, most_of_batch}
 use Rattle.stream_groups.specs.Begins.{IsLined}
 use Rattle.stream_groups.specs.Reading.{Begins, HasPart, Reaches}
 use Rattle.stream_groups.specs.Stops.{Tells}
 use Rattle.stream_groups.specs.Ways.{of_text}
+use Rattle.stream_groups.specs.declared.stop.Stop.TheVariants as stop
+use Rattle.stream_groups.proofs.Before.{before_more}
 use Rattle.stream_groups.proofs.Refusals.{begins, missing_tells}
 use Rattle.stream_groups.proofs.Takes.{takes_then}
 use Rattle.stream_groups.proofs.reading.read_groups.Goals as goal
@@ -17,6 +21,17 @@ returns-in_err-first-clause-why g c =
     let why = c.in_err-first.field-0.0 in
     let here : Tells (of_text c.args.plan.now.reading) c.args.plan.now from why =
     subst (λ (r : Reading). Tells (of_text r) c.args.plan.now from why) c.reading-reading.ensures.value (c.in_err-first.ensures.why c.args.plan.now) in
+    search rules
+
+pub returns-in_err-first-clause-read_before : goal.returns-in_err-first-clause-read_before
+returns-in_err-first-clause-read_before g c =
+    let query = c.args.plan.now in
+    let old = g.S.Source.left c.args.source.now in
+    let new = g.S.Source.left c.first_window.new.source in
+    let why = c.in_err-first.field-0.0 in
+    let here : why ≡ stop.ReadFault → ReadBefore (of_text query.reading) query old new (most_of_batch c.args.size) = λ e.
+    before_more (of_text query.reading) query old new (MOST_RECORD_BYTES + 1) (most_of_batch c.args.size) (omega arith)
+    (subst (λ (r : Reading). ReadBefore (of_text r) query old new (MOST_RECORD_BYTES + 1)) c.reading-reading.ensures.value (c.in_err-first.ensures.read_before e query)) in
     search rules
 
 pub returns-in_err-bound-clause-why : goal.returns-in_err-bound-clause-why
@@ -53,6 +68,15 @@ returns-in_err-stream-2-clause-why g c =
     let from = g.S.Source.left c.args.source.now in
     let has = c.loop.invariant.rows in
     let here : Tells (of_text c.args.plan.now.reading) c.args.plan.now from c.in_err-stream-2.field-0.0 = c.in_err-stream-2.ensures.why from has.0 has.1 in
+    search rules
+
+pub returns-in_err-stream-2-clause-read_before : goal.returns-in_err-stream-2-clause-read_before
+returns-in_err-stream-2-clause-read_before g c =
+    let query = c.args.plan.now in
+    let from = g.S.Source.left c.args.source.now in
+    let new = g.S.Source.left c.next_window.new.source in
+    let has = c.loop.invariant.rows in
+    let here : c.in_err-stream-2.field-0.0 ≡ stop.ReadFault → ReadBefore (of_text query.reading) query from new (most_of_batch c.args.size) = λ e. c.in_err-stream-2.ensures.read_before e from has.0 has.1 in
     search rules
 
 pub loop-preserved : goal.loop-preserved
