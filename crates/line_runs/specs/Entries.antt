@@ -41,6 +41,6 @@ entry_bytes plan key state = whole_entry key (line_of plan key state)
 abbrev pub entry_in : List ℕ → Entry
 entry_in bytes = (take (get_or bytes 0 0) (drop 1 bytes), drop (get_or bytes 0 0) (drop 1 bytes))
 
--- whether an entry comes before another, by so many columns of their keys
+-- whether an entry comes before another, by this many columns of their keys
 abbrev pub comes_before : ℕ → Entry → Entry → Bool
 comes_before count a b = is_lt (columns_cmp (columns_in count a.0) (columns_in count b.0))

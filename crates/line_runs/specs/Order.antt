@@ -18,7 +18,7 @@ entry_there runs place = get_or (get_or runs place.0 []) place.1 no_entry
 abbrev pub entry_at : List (List Entry) → LineRef → Entry
 entry_at runs line = entry_there runs (place_of line)
 
--- so many columns of a line's key
+-- this many columns of a line's key
 abbrev pub columns_at : ℕ → List (List Entry) → LineRef → List (List ℕ)
 columns_at count runs line = columns_in count (entry_at runs line).0
 

@@ -11,7 +11,7 @@ use Rattle.line_runs.specs.Entries.{Entry, all_entries, comes_before, no_entry}
 use Rattle.line_runs.specs.declared.ranges.Ranges.{Ranges}
 use Rattle.line_runs.specs.declared.ranges.TheConstants.{SAMPLE}
 
--- whether a key comes before another, by so many columns
+-- whether a key comes before another, by this many columns
 abbrev pub is_before : ℕ → List ℕ → List ℕ → Bool
 is_before columns a b = is_lt (columns_cmp (columns_in columns a) (columns_in columns b))
 
@@ -31,7 +31,7 @@ range_of r key = count_before r key / SAMPLE
 abbrev pub count_of : Ranges → ℕ
 count_of r = length r.sample.items / SAMPLE + 1
 
--- no key from one place of a run on to another comes after a key, by so many columns
+-- no key from one place of a run on to another comes after a key, by this many columns
 abbrev pub NoneAfter : ℕ → List Entry → List ℕ → ℕ → ℕ → Type 0
 NoneAfter count run key from to = (k : ℕ) → from ≤ k → k < to → is_before count key (get_or run k no_entry).0 ≡ false
 

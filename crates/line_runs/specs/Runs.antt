@@ -12,7 +12,7 @@ use Rattle.partial_agg.specs.declared.groups.Group.{Group}
 use Rattle.result_text.specs.KeyColumns.{columns_in}
 use Rattle.line_runs.specs.Entries.{Entry, entry_of}
 
--- entries rise strictly, by so many columns
+-- entries rise strictly, by this many columns
 abbrev pub Rise : ℕ → List Entry → Type 0
 Rise count entries = IsStrictlySortedBy columns_cmp (map (λ entry. columns_in count entry.0) entries)
 

@@ -82,7 +82,7 @@ pub(crate) struct Shared<'a> {
 }
 
 impl<'a> Shared<'a> {
-    /// What two keys with so many columns have in common, and so all keys between them. If all columns are the same, nothing
+    /// What two keys with this many columns have in common, and so all keys between them. If all columns are the same, nothing
     /// is said to be in common.
     pub(crate) fn between(low: &'a [u8], high: &[u8], columns: u32) -> Shared<'a>
         requires { 0 < columns }

@@ -13,7 +13,7 @@ use std::alloc::{AllocError, Global};
 /// How many keys of the sample a range has.
 const SAMPLE: usize = 16;
 
-/// Ranges of the keys with so many columns: each but the first begins after a key.
+/// Ranges of the keys with this many columns: each but the first begins after a key.
 #[derive(Drop)]
 pub(crate) struct Ranges<'a> {
     sample: Vec<&'a [u8]>,
@@ -204,7 +204,7 @@ fn greatest_of<'a>(a: &'a [u8], b: &'a [u8], columns: u32) -> &'a [u8] {
     }
 }
 
-/// Adds this many keys of a run to a sample, at even distances, or all that it has. The first place is another in each of so many
+/// Adds this many keys of a run to a sample, at even distances, or all that it has. The first place is another in each of this many
 /// runs, so that the keys of all of them are at even distances in the table too, however few each gives.
 fn take_keys<'a>(
     sample: &mut Vec<&'a [u8]>,

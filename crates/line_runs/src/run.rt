@@ -10,7 +10,7 @@ ghost use Rattle.result_text.specs.Printable.{ArePrintable, IsSmallSlot};
 ghost use Rattle.line_runs.specs.Entries.{entry_bytes, entry_in, entry_of, no_entry, whole_entry};
 ghost use Rattle.line_runs.specs.Runs.{IsRunOf};
 
-use par_model::{AggState, BoundPlan};
+use par_model::{AggState, BoundPlan, SlotState};
 use partial_agg::{GroupMap, Groups, empty};
 use result_text::{GroupRef, in_order, push_line};
 use std::alloc::{AllocError, Global};
@@ -42,24 +42,26 @@ impl Run {
         requires { ArePrintable bound.now (listed map) }
         ensures { IfOk result (IsRunOf bound.now (listed map)) }
     {
+        let room = about_bytes(bound, &map);
         let groups = map.into_groups();
         let refs = in_order(alloc, &groups, group_count(bound))?;
-        Run::of_groups(alloc, bound, &groups, &refs)
+        Run::of_groups(alloc, bound, &groups, &refs, room)
     }
 
-    /// The lines of groups, in this order.
+    /// The lines of groups, in this order, for which about this many bytes are enough.
     fn of_groups(
         alloc: Global,
         bound: &BoundPlan,
         groups: &Groups,
         refs: &[GroupRef<'_>],
+        room: usize,
     ) -> Result<Run, AllocError>
         requires small { All (λ group. All IsSmallSlot group.state.slots) groups.now }
         requires within { All (λ group. group.at < length groups.now) refs.now }
         requires short { All (λ group. length group.key.now ≤ longest_key) refs.now }
         ensures { IfOk result (λ run. run ≡ map_list (entry_of bound.now) (map_list (group_of groups.now) refs.now)) }
     {
-        let mut bytes = Vec::new(alloc);
+        let mut bytes = Vec::with_capacity(alloc, room)?;
         let mut ends = Vec::with_capacity(alloc, refs.len())?;
         let lent = groups.lent();
         let mut state = empty();
@@ -79,7 +81,7 @@ impl Run {
         Run { bytes, ends }
     }
 
-    /// No lines, and room for so many, which have so many bytes with their keys.
+    /// No lines, and room for this many, which have this many bytes with their keys.
     pub fn with_capacity(alloc: Global, lines: usize, bytes: usize) -> Result<Run, AllocError>
         ensures { IfOk result (λ run. run ≡ []) }
     {
@@ -170,6 +172,35 @@ impl Run {
         }
         self.ends[at - 1]
     }
+}
+
+/// About how many bytes the entries of a map's groups have. All of them are read once in the order in which they lie, so they are
+/// near when they are read again in the order of their keys.
+fn about_bytes(bound: &BoundPlan, map: &GroupMap) -> usize {
+    let groups = map.lent();
+    let mut state = empty();
+    let mut bytes = 0usize;
+    for at in 0..groups.len() {
+        groups.read_state(at, &mut state, bound.items().len() as u32);
+        bytes = bytes.saturating_add(about_entry(bound, groups.key(at), &state));
+    }
+    bytes
+}
+
+/// About how many bytes the entry of a group has: the key and its columns, and a number for each aggregate.
+fn about_entry(bound: &BoundPlan, key: &[u8], state: &AggState) -> usize {
+    let mut bytes = key.len().saturating_mul(2);
+    for (_item, slot) in bound.items().iter().zip(state.slots.iter()) {
+        bytes = bytes.saturating_add(about_number(state.rows, slot));
+    }
+    bytes
+}
+
+/// About how many bytes a number of an aggregate has: a digit for three bits, and some for a sign, a point, places and
+/// a comma.
+fn about_number(rows: u64, slot: &SlotState) -> usize {
+    let size = slot.sum.unsigned_abs().max(u128::from(rows));
+    (128 - size.leading_zeros()) as usize / 3 + 8
 }
 
 /// How many columns a plan groups by.

@@ -15,7 +15,7 @@ use std::thread::{Threads, for_each_mut};
 /// A run, or no memory for it.
 type Made = Result<Run, AllocError>;
 
-/// The lines of all runs in the order of their keys, which have so many columns, in other runs, one after another. The lines of a run
+/// The lines of all runs in the order of their keys, which have this many columns, in other runs, one after another. The lines of a run
 /// rise strictly. At most this many threads work, the caller's among them; it takes as much memory as the runs, and 16 bytes a line.
 pub fn sorted_runs<R: Threads + Sync>(
     rt: &R,
@@ -56,7 +56,7 @@ fn range_runs<R: Threads + Sync>(
     Ok(made)
 }
 
-/// So many runs that are not made.
+/// This many runs that are not made.
 fn no_runs(alloc: Global, count: usize) -> Result<Vec<Made>, AllocError>
     ensures { IfOk result (λ runs. length runs.items ≡ count) }
 {
@@ -78,7 +78,7 @@ fn range_run(alloc: Global, runs: &[Run], ranges: &Ranges<'_>, range: usize) -> 
     run_of(alloc, runs, found.lines.as_slice(), found.bytes)
 }
 
-/// A run of lines of other runs, for which so many bytes are enough.
+/// A run of lines of other runs, for which this many bytes are enough.
 fn run_of(alloc: Global, runs: &[Run], lines: &[LineRef], bytes: usize) -> Made
     ensures { IfOk result (λ run. run ≡ map_list (entry_at runs.now) lines.now) }
 {

@@ -165,7 +165,7 @@ fn range_texts<R: Threads + Sync>(
     Ok(texts)
 }
 
-/// So many texts of no bytes.
+/// This many texts of no bytes.
 fn no_texts(alloc: Global, count: usize) -> Result<Vec<Part>, AllocError>
     ensures { IfOk result (λ texts. length texts.items ≡ count) }
 {
@@ -255,7 +255,7 @@ fn add_lines(lines: &mut Vec<LineRef>, run: usize, from: usize, to: usize) -> Re
     Ok(())
 }
 
-/// Lines one after another, for which so many bytes are enough.
+/// Lines one after another, for which this many bytes are enough.
 fn text_of(alloc: Global, runs: &[Run], lines: &[LineRef], bytes: usize) -> Part
     ensures { IfOk result (λ text. text.items ≡ concat (map_list (λ entry. entry.1) (map_list (entry_at runs.now) lines.now))) }
 {

@@ -63,8 +63,8 @@ unfolding cut_from
 loop-group-init c = record {
   small = subst (λ (s : AggState). All IsSmallSlot s.slots) (sym c.empty-state.ensures.zeros) (All-replicate IsSmallSlot 8 no_values none_small);
   have = record {
-    covers = rw (c.new-bytes.ensures.items, c.in_ok-ends.ensures.items) covers-none;
-    entries = rw (c.new-bytes.ensures.items, c.in_ok-ends.ensures.items) refl;
+    covers = rw (c.in_ok-bytes.ensures.items, c.in_ok-ends.ensures.items) covers-none;
+    entries = rw (c.in_ok-bytes.ensures.items, c.in_ok-ends.ensures.items) refl;
   };
 }
 
