@@ -1,7 +1,8 @@
 -- The partitions of a closed table, taken from the last to the first and then turned round.
-use Rattle.std.proofs.Common.{◌≡◌, ◌<◌, ◌+◌, ◌∙◌, ◌++◌, ◌∷◌, ◌⊎◌, inl, inr, ℕ, zero, suc, List, [], Some, refl, ap, sym, subst, arith, length, reverse, slice_get}
+use Rattle.std.proofs.Common.{◌≡◌, ◌<◌, ◌+◌, ◌∙◌, ◌++◌, ◌∷◌, ◌⊎◌, inl, inr, ℕ, zero, suc, List, [], Some, refl, ap, sym, subst, arith, get_or, length, reverse, slice_get}
 use Rattle.std.proofs.lemmas.List.{length-append, reverse-append}
-use Rattle.std.proofs.lemmas.Option.{slice_get-get_or, slice_get_within}
+use Rattle.std.specs.FinMap as fin
+use Rattle.std.proofs.lemmas.Option.{get_or_from_slice_get, slice_get-get_or, slice_get_within}
 use Rattle.atomic_table.specs.Seated.{TableId}
 use Rattle.lock_book.specs.declared.view.Entry.{Entry}
 use Rattle.dshash_core.specs.Cells.{KeyMap, PartitionView}
@@ -11,7 +12,7 @@ use Rattle.dshash_parts.specs.States.{PartitionState}
 use Rattle.dshash_parts.specs.declared.histories.PartitionCalls.{PartitionCalls}
 use Rattle.dshash_parts.specs.declared.histories.PartitionReplies.{PartitionReplies}
 use Rattle.dshash_parts.specs.declared.table.Dshash.{Dshash}
-use Rattle.frozen_table.specs.Parts.{AreFrozen, AreListed, AreParts, HaveMaps, ListMaps}
+use Rattle.frozen_table.specs.Parts.{AreFrozen, AreListed, AreParts, HaveMaps, ListMaps, map_in}
 
 -- an element at a place within a list
 pub some_at : {X : Type 0} (xs : List X) (i : ℕ) → i < length xs → (x : X) × (slice_get xs i ≡ Some x)
@@ -95,4 +96,15 @@ module _ {S : Type 0} where
     each = λ i list e.
         let p = some_at parts i (omega (arith, slice_get_within lists i list e, frozen.listed.count)) in
         subst (λ (m : KeyMap S). ListsAll m list) (have.each i p.0 p.1) (frozen.listed.each i p.0 list p.1 e);
+  }
+
+  -- the lists of partitions have each key once
+  pub list_own : (parts : List (PartitionView S)) (lists : List (List (List ℕ × S))) → length parts ≡ 128 → AreListed parts lists → ListMaps (map_in lists) lists
+  list_own parts lists whole listed = record {
+    count = listed.count ∙ whole;
+    each = λ i list e.
+        let p = some_at parts i (omega (arith, slice_get_within lists i list e, listed.count)) in
+        let all = listed.each i p.0 list p.1 e in
+        let here : get_or lists i [] ≡ list = get_or_from_slice_get lists i list [] e in
+        record { all = sym (ap (λ (l : List (List ℕ × S)). fin.from_entries l) here); once = all.once ∙ sym (ap (λ (m : KeyMap S). fin.len m) (ap (λ (l : List (List ℕ × S)). fin.from_entries l) here ∙ all.all)) };
   }

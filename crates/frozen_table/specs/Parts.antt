@@ -1,5 +1,6 @@
 -- The partitions of a table that was closed, and what lists their entries.
-use Rattle.std.specs.Prelude.{◌≡◌, ℕ, List, All, Some, length, slice_get}
+use Rattle.std.specs.Prelude.{◌≡◌, ℕ, List, [], All, Some, get_or, length, slice_get}
+use Rattle.std.specs.FinMap as fin
 use Rattle.atomic_table.specs.Seated.{TableId}
 use Rattle.lock_book.specs.declared.view.Entry.{Entry}
 use Rattle.dshash_core.specs.Cells.{KeyMap, PartitionView}
@@ -36,3 +37,7 @@ pub record AreFrozen {S : Type 0} (parts : List (PartitionView S)) (lists : List
 pub record ListMaps {S : Type 0} (maps : ℕ → KeyMap S) (lists : List (List (List ℕ × S))) : Type 0 where
   pub count : length lists ≡ 128
   pub each : (i : ℕ) (list : List (List ℕ × S)) → slice_get lists i ≡ Some list → ListsAll (maps i) list
+
+-- the map of the entries of the list of this number
+abbrev pub map_in : {S : Type 0} → List (List (List ℕ × S)) → ℕ → KeyMap S
+map_in lists number = fin.from_entries (get_or lists number [])

@@ -5,7 +5,7 @@ ghost use Rattle.std.specs.FinMap as fin;
 ghost use Rattle.dshash_core.specs.Cells.{partition_of};
 ghost use Rattle.dshash_core.specs.Key.{hash_of};
 ghost use Rattle.dshash_core.specs.Listing.{pairs_of};
-ghost use Rattle.frozen_table.specs.Parts.{AreListed, ListMaps};
+ghost use Rattle.frozen_table.specs.Parts.{AreListed, ListMaps, map_in};
 
 use crate::index::Index;
 use dshash_core::{CellObject, Entry, PARTITIONS, Partition, hash_key, partition_of_hash};
@@ -21,7 +21,7 @@ pub struct Lookup<O: CellObject> {
 }
 
 impl<O: CellObject> Model for Lookup<O> {
-    ghost use Rattle.std.specs.Prelude.{◌≡◌, ℕ, List, length};
+    ghost use Rattle.std.specs.Prelude.{ℕ, List};
     ghost use Rattle.std.specs.Coded.{coded×, coded_ℕ, coded_list};
 
     ghost Value = { List (List (List ℕ × O.State)) };
@@ -30,7 +30,9 @@ impl<O: CellObject> Model for Lookup<O> {
 
     ghost view = { λ l. l.indexes.items };
 
-    ghost invariant = { λ l. length l.indexes.items ≡ 128 };
+    ghost use Rattle.frozen_table.specs.Parts.{ListMaps, map_in};
+
+    ghost invariant = { λ l. ListMaps (map_in l.indexes.items) l.indexes.items };
 }
 
 impl<O: CellObject> Lookup<O> {
@@ -55,7 +57,8 @@ impl<O: CellObject> Lookup<O> {
 
     /// The state under a key, if it has one: the key is hashed once, and compared with the keys of its slot.
     pub fn get(&self, key: &[u64]) -> Option<O::State>
-        ensures { (maps : _) → ListMaps maps self.now → result ≡ fin.get (maps (partition_of (hash_of key.now))) key.now }
+        ensures is { result ≡ fin.get (map_in self.now (partition_of (hash_of key.now))) key.now }
+        ensures maps { (maps : _) → ListMaps maps self.now → result ≡ fin.get (maps (partition_of (hash_of key.now))) key.now }
     {
         let hash = hash_key(key);
         self.indexes[partition_of_hash(hash) as usize].find(hash, key)

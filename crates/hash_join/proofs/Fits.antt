@@ -1,13 +1,13 @@
 -- The keys of the table: the longest field fits, and a key tells its field.
-use Rattle.std.proofs.Common.{◌≡◌, ◌≤◌, ◌<◌, ◌+◌, ◌*◌, ◌-◌, ◌⊎◌, inl, inr, ◌∷◌, ℕ, zero, suc, List, drop, length, take, arith, ap, sym, subst, ◌∙◌, refl}
+use Rattle.std.proofs.Common.{◌≡◌, ◌≤◌, ◌<◌, ◌+◌, ◌*◌, ◌-◌, ◌⊎◌, inl, inr, ◌∷◌, ℕ, zero, suc, List, get_or, length, length-take, min, take, arith, ap, sym, subst, ◌∙◌}
 use Rattle.std.specs.Int.{div_ceil}
 use Rattle.std.proofs.Math.Nat.{le-max_left, le-max_right, le-suc_iff, max-le}
-use Rattle.std.proofs.lemmas.Grind.{div_ceil_times}
+use Rattle.std.proofs.lemmas.Grind.{div_ceil_times, same_number_lists}
+use Rattle.std.proofs.lemmas.List.{get_or-take}
 use Rattle.csv_rows.specs.Records.{field_of}
-use Rattle.dshash_core.specs.Key.{packed_key}
 use Rattle.join_pairs.specs.Join.{AllAccepted, IsRow}
-use Rattle.rel_pointer.specs.Bytes.{AllBytes, packed_words, value_of}
-use Rattle.rel_pointer.proofs.Words.{packed_words-same}
+use Rattle.rel_pointer.specs.Bytes.{AllBytes, packed, packed_words}
+use Rattle.rel_pointer.proofs.Words.{length-packed_words, packed_words-at, packed_words-same}
 use Rattle.row_blocks.specs.Blocks.{Table}
 use Rattle.hash_join.specs.Filled.{key_of}
 use Rattle.hash_join.specs.Widths.{field_words, key_words, longest_of}
@@ -32,11 +32,6 @@ longest_most records column (suc n) most h =
 -- as many words as needed have room for the bytes, and hardly more
 pub words_fit : (bytes : ℕ) → (bytes ≤ 8 * div_ceil bytes 8) × (8 * div_ceil bytes 8 < bytes + 8)
 words_fit bytes = (let t = div_ceil_times bytes 8 (omega arith) in (omega (arith, t.0), omega (arith, t.1)))
-
-pub take-packed_words : (n m : ℕ) (bytes : List ℕ) → n ≤ m → take n (packed_words m bytes) ≡ packed_words n bytes
-take-packed_words zero m bytes h = refl
-take-packed_words (suc n) zero bytes h = absurd (omega (arith, h))
-take-packed_words (suc n) (suc m) bytes h = ap (λ (l : List ℕ). value_of (take 8 bytes) ∷ l) (take-packed_words n m (drop 8 bytes) (omega (arith, h)))
 
 pub packs_same : (n : ℕ) (x y : List ℕ) → AllBytes x → AllBytes y → length x ≤ 8 * n → ◌≡◌ {A = List ℕ} (length x ∷ packed_words n x) (length y ∷ packed_words n y) → x ≡ y
 packs_same n x y a b short e =
@@ -68,13 +63,23 @@ words_small records column accepted n words is w =
 
 -- ---- the key of a row
 
-cut_packed : (m w : ℕ) (bytes : List ℕ) → m ≤ 31 → w ≡ suc m → take w (packed_key bytes) ≡ length bytes ∷ packed_words m bytes
-unfolding packed_key
-cut_packed m w bytes h e =
-    ap (λ (k : ℕ). take k (length bytes ∷ packed_words 31 bytes)) e ∙ ap (λ (l : List ℕ). length bytes ∷ l) (take-packed_words m 31 bytes h)
+-- the words that were filled
+pub packs_words : (m : ℕ) (key bytes : List ℕ) → length key ≡ 32 → m ≤ 31 → get_or key 0 0 ≡ length bytes → ((k : ℕ) → k < m → get_or key (1 + k) 0 ≡ packed bytes k) → take (suc m) key ≡ length bytes ∷ packed_words m bytes
+packs_words m key bytes long low head words = same_number_lists (take (suc m) key) (length bytes ∷ packed_words m bytes) (cut ∙ sym (ap suc (length-packed_words m bytes))) each
+  where
+    cut : length (take (suc m) key) ≡ suc m
+    cut = length-take (suc m) key ∙ let few : min (suc m) (length key) ≡ suc m = omega (arith, long, low) in few
 
--- the first words of the packed field
-pub key_is : (records : Table) (column row words : ℕ) (packed key : List ℕ) → words ≡ key_words records column → words ≤ 32 → packed ≡ packed_key (field_of records row column) → key ≡ take words packed
+    each : (k : ℕ) → k < length (take (suc m) key) → get_or (take (suc m) key) k 0 ≡ get_or (length bytes ∷ packed_words m bytes) k 0
+    each zero h = get_or-take (suc m) key 0 0 (omega arith) ∙ head
+    each (suc k) h =
+        let lt : k < m = omega (arith, h, cut) in
+        let at : suc k ≡ 1 + k = omega arith in
+        get_or-take (suc m) key (suc k) 0 (omega (arith, lt)) ∙ ap (λ (j : ℕ). get_or key j 0) at ∙ words k lt ∙ sym (packed_words-at m bytes k lt)
+
+-- the key of the row's field
+pub key_is : (records : Table) (column row words : ℕ) (packed key field : List ℕ) → words ≡ key_words records column → take words packed ≡ length field ∷ packed_words (words - 1) field → field ≡ field_of records row column → key ≡ take words packed
     → key ≡ key_of records column row
-key_is records column row words packed key is short p cut =
-    cut ∙ ap (take words) p ∙ cut_packed (field_words records column) words (field_of records row column) (omega (arith, is, short)) (omega (arith, is))
+key_is records column row words packed key field is packs f cut =
+    let few : words - 1 ≡ field_words records column = omega (arith, is) in
+    cut ∙ packs ∙ ap (λ (n : ℕ). length field ∷ packed_words n field) few ∙ ap (λ (x : List ℕ). length x ∷ packed_words (field_words records column) x) f

@@ -6,40 +6,56 @@ use Rattle.std.specs.List.{AllByRecursion, flat_map}
 use Rattle.std.specs.List.Sorted.{IsPermutation}
 use Rattle.std.proofs.lemmas.List.Elements.{All-weaker, recursion_from_All}
 use Rattle.csv_rows.specs.Records.{field_of}
-use Rattle.lock_book.specs.History.{StartsWith, calls_by, row_at}
+use Rattle.lock_book.specs.History.{IsLegal, calls_by, row_at}
 use Rattle.lock_book.specs.Shown.{mine_of}
 use Rattle.rel_pointer.specs.Bytes.{AllBytes}
 use Rattle.dsa_area.specs.Shown as area
 use Rattle.dsa_area.specs.Shown.{pages_mine}
 use Rattle.dsa_area.specs.declared.area.AreaPass.{AreaPass}
+use Rattle.dshash_parts.specs.Legal.{PartitionLegal}
+use Rattle.dshash_parts.specs.States.{fresh}
 use Rattle.dshash_parts.specs.Tables as table
-use Rattle.dshash_parts.proofs.Uses.{partition_low}
+use Rattle.dshash_parts.specs.Tables.{callers_of, map_at}
 use Rattle.scan_claim.specs.Drawing.{IsDrawn, flat, is_spent, once_below, times}
 use Rattle.scan_claim.specs.Shown.{AreSeats, blocks_of, draws_of, lists_of}
 use Rattle.scan_claim.specs.declared.claims.ClaimSeat.{ClaimSeat}
 use Rattle.scan_claim.specs.declared.claims.Claims.{Claims}
 use Rattle.scan_claim.specs.declared.claims.Drawn.{Drawn}
 use Rattle.row_blocks.specs.Blocks.{AreBlocks, Table, numbers_of, numbers_of_blocks}
+use Rattle.join_pairs.specs.Chains.{last_step}
 use Rattle.join_pairs.specs.Gathered.{IsCovered}
-use Rattle.join_pairs.specs.Join.{AllAccepted, IsRow, keyed}
+use Rattle.join_pairs.specs.Join.{IsRow, keyed}
 use Rattle.join_pairs.specs.declared.chains.Link.{Link}
-use Rattle.row_blocks.proofs.Elements.{any_left}
 use Rattle.hash_join.specs.Filled.{HasPut, RowEntry, WasMissed, WasTurnedAway, calls_at, done_in, key_of, longest_chain, partition_at}
 use Rattle.dshash_parts.specs.Done.{IsMissing, IsTurnedAway, PageEntry, lacks}
 use Rattle.dshash_parts.proofs.Causes.{causes_kept}
-use Rattle.hash_join.specs.Home.{IsClosed, IsHome}
+use Rattle.hash_join.specs.Home.{IsHome}
+use Rattle.hash_join.specs.Probes.{last_in}
 use Rattle.hash_join.specs.Stores.{HasFilled}
 use Rattle.hash_join.specs.Used.{IsShared, WerePut}
+use Rattle.hash_join.specs.Widths.{key_words}
 use Rattle.hash_join.specs.declared.filling.Filler.{Filler}
 use Rattle.hash_join.specs.declared.gathering.Home.{Home}
 use Rattle.hash_join.specs.declared.store.Store.{Store}
 use Rattle.hash_join.proofs.Covering.{map-map}
-use Rattle.hash_join.proofs.Covers.{covered, rows_tell}
-use Rattle.hash_join.proofs.Entered.{length-map}
-use Rattle.hash_join.proofs.Flattened.{some_at}
+use Rattle.hash_join.proofs.Lasts.{covered}
 use Rattle.hash_join.proofs.Gathers.{AllPut, all_rows, rows_of}
 
 -- ---- places of lists
+
+pub some_at : {X : Type 0} (xs : List X) (k : ℕ) → k < length xs → (x : X) × (get_elem? xs k ≡ some x)
+some_at [] k low = absurd (omega (arith, low))
+some_at (x ∷ xs) zero low = (x, refl)
+some_at (x ∷ xs) (suc k) low = some_at xs k (omega (arith, low))
+
+pub place_low : {X : Type 0} (xs : List X) (k : ℕ) (x : X) → get_elem? xs k ≡ some x → k < length xs
+place_low [] k x e = absurd (cc)
+place_low (y ∷ ys) zero x e = omega arith
+place_low (y ∷ ys) (suc k) x e = let l = place_low ys k x e in omega (arith, l)
+
+pub length-map : {X Y : Type 0} (f : X → Y) (xs : List X) → length (map f xs) ≡ length xs
+length-map f [] = refl
+length-map f (x ∷ xs) = ap suc (length-map f xs)
 
 pub map_get : {X Y : Type 0} (f : X → Y) (xs : List X) (n : ℕ) (x : X) → get_elem? xs n ≡ some x → get_elem? (map f xs) n ≡ some (f x)
 map_get f [] n x e = absurd (cc)
@@ -81,24 +97,15 @@ drawn_enough (suc b) n h = let l = below_one b n (h b (omega arith)) in omega (a
 
 -- ---- what a participant put in, by the calls of its number in the closed table
 
-pub put_moved : (records : Table) (column : ℕ) (rows : List ℕ) (mine calls : ℕ → List RowEntry) (at_pages : List PageEntry) (links : List Link) (spilled : List ℕ)
-    → ((i : ℕ) → i < 128 → done_in (calls i) ≡ done_in (mine i)) → ((i : ℕ) → i < 128 → StartsWith (calls i) (mine i))
+put_moved : (records : Table) (column : ℕ) (rows : List ℕ) (mine calls : ℕ → List RowEntry) (at_pages : List PageEntry) (links : List Link) (spilled : List ℕ) → ((i : ℕ) → calls i ≡ mine i)
     → HasPut records column rows mine at_pages links spilled → HasPut records column rows calls at_pages links spilled
-put_moved records column rows mine calls at_pages links spilled same grown h = record {
+put_moved records column rows mine calls at_pages links spilled same h = record {
   all = h.all;
-  done = λ i low. same i low ∙ h.done i low;
+  done = λ i low. ap done_in (same i) ∙ h.done i low;
   missed = All-weaker (WasMissed records column mine) (WasMissed records column calls)
-      (λ r m.
-      let i = partition_at records column r in
-      let g = grown i (partition_low (key_of records column r)) in
-      subst (Any (λ (e : RowEntry). IsMissing (key_of records column r) r e.call e.reply)) (sym g.1)
-      (any_left (λ (e : RowEntry). IsMissing (key_of records column r) r e.call e.reply) (mine i) g.0 m)) spilled h.missed;
+      (λ r m. subst (Any (λ (e : RowEntry). IsMissing (key_of records column r) r e.call e.reply)) (sym (same (partition_at records column r))) m) spilled h.missed;
   causes = causes_kept (WasTurnedAway records column mine) (WasTurnedAway records column calls)
-      (λ r m.
-      let i = partition_at records column r in
-      let g = grown i (partition_low (key_of records column r)) in
-      subst (Any (λ (e : RowEntry). IsTurnedAway longest_chain (key_of records column r) r e.call e.reply)) (sym g.1)
-      (any_left (λ (e : RowEntry). IsTurnedAway longest_chain (key_of records column r) r e.call e.reply) (mine i) g.0 m)) spilled (lacks at_pages) (lacks at_pages) h.causes (omega arith);
+      (λ r m. subst (Any (λ (e : RowEntry). IsTurnedAway longest_chain (key_of records column r) r e.call e.reply)) (sym (same (partition_at records column r))) m) spilled (lacks at_pages) (lacks at_pages) h.causes (omega arith);
 }
 
 module _ (records : Table) (column : ℕ) (s : Store) (c : Claims) (fs : List Filler) (h : Home) (home : IsHome records column s c fs h) where
@@ -109,6 +116,16 @@ module _ (records : Table) (column : ℕ) (s : Store) (c : Claims) (fs : List Fi
 
   pub home_tables : table.AreAll s.table h.tables.items
   home_tables = subst (λ l. table.AreAll s.table l) (sym home.tables) home.all.tables
+
+  pub table_at : (n : ℕ) (f : Filler) → get_elem? fs n ≡ some f → get_elem? h.tables.items n ≡ some f.table
+  table_at n f e = subst (λ l. get_elem? l n ≡ some f.table) (sym home.tables) (map_get (λ (f : Filler). f.table) fs n f e)
+
+  -- there are as many participants as callers of the table
+  pub callers_past : (n : ℕ) → length fs ≤ n → callers_of s.table ≤ n
+  callers_past n past =
+      let many : length h.tables.items ≡ length fs = subst (λ l. length l ≡ length fs) (sym home.tables) (length-map (λ (f : Filler). f.table) fs) in
+      let all = home_tables.count in
+      omega (arith, past, many, all)
 
   pub home_seats : AreSeats c h.claims.items
   home_seats = subst (λ l. AreSeats c l) (sym home.claims) home.all.claims
@@ -166,35 +183,31 @@ module _ (records : Table) (column : ℕ) (s : Store) (c : Claims) (fs : List Fi
         let enough : blocks_of c ≤ drawn.0 = drawn_enough (blocks_of c) drawn.0 (λ x low. sym (drawn.1.once x) ∙ all_once x low) in
         all_rows records column draws links spilled drawn.0 (puts fs filled) once (omega (arith, blocks.all, enough))
 
-    module _ (history : ℕ → List RowEntry) (entries : List (List ℕ × ℕ)) (closed : IsClosed h.tables.items history entries) where
-      table_at : (n : ℕ) (f : Filler) → get_elem? fs n ≡ some f → get_elem? h.tables.items n ≡ some f.table
-      table_at n f e = subst (λ l. get_elem? l n ≡ some f.table) (sym home.tables) (map_get (λ (f : Filler). f.table) fs n f e)
-
-      tables_count : length h.tables.items ≡ length fs
-      tables_count = subst (λ l. length l ≡ length fs) (sym home.tables) (length-map (λ (f : Filler). f.table) fs)
-
+    -- the histories of a table that was closed with the participants' passes
+    module _ (history : ℕ → List RowEntry) (mine : (n i : ℕ) (f : Filler) → get_elem? fs n ≡ some f → calls_by n (history i) ≡ mine_of f.table i) (no_others : (i n : ℕ) → length fs ≤ n → calls_by n (history i) ≡ [])
+        (lawful : (i : ℕ) → i < 128 → IsLegal (λ _. PartitionLegal last_step i) fresh (history i)) where
       made : (n i : ℕ) → i < 128 → n < length links → done_in (calls_by n (history i)) ≡ calls_at records column i (row_at links n)
       made n i low there =
           let f = some_at fs n (omega (arith, there, length-map (λ (f : Filler). f.links.items) fs)) in
           let put = (here_at (HasFilled records column c) fs n f.0 f.1 filled).put in
-          closed.made n i f.0.table (table_at n f.0 f.1) low ∙ (put.done i low ∙ ap (calls_at records column i) (sym (row_at_map (λ (f : Filler). f.links.items) fs n f.0 f.1)))
+          ap done_in (mine n i f.0 f.1) ∙ (put.done i low ∙ ap (calls_at records column i) (sym (row_at_map (λ (f : Filler). f.links.items) fs n f.0 f.1)))
 
-      no_others : (n i : ℕ) → i < 128 → length links ≤ n → calls_by n (history i) ≡ []
-      no_others n i low past = closed.no_others n i low (omega (arith, past, length-map (λ (f : Filler). f.links.items) fs, tables_count))
+      none_past : (n i : ℕ) → i < 128 → length links ≤ n → calls_by n (history i) ≡ []
+      none_past n i low past = no_others i n (omega (arith, past, length-map (λ (f : Filler). f.links.items) fs))
 
-      pub home_covered : AllAccepted records column → ((row : ℕ) → IsRow records row → AllBytes (field_of records row column)) → (n : ℕ) × IsDrawn (blocks_of c) (lists_of d) n
-          → IsCovered records column entries (flat_map (λ v. v.items) h.links.items) (flat_map (λ v. v.items) h.spilled.items)
-      home_covered accepted bytes drawn =
-          subst (λ (ls : List Link). IsCovered records column entries ls (flat_map (λ v. v.items) h.spilled.items)) (sym same_links)
-          (subst (λ (ss : List ℕ). IsCovered records column entries (flat_map (λ (l : List Link). l) links) ss) (sym same_spilled)
-          (covered records column history links made no_others closed.lawful (rows_tell records column bytes) entries closed.listed (flat_map (λ (l : List ℕ). l) spilled) (all_rows_put drawn)))
+      pub home_covered : (words : ℕ) → words ≡ key_words records column → ((row : ℕ) → IsRow records row → AllBytes (field_of records row column)) → (n : ℕ) × IsDrawn (blocks_of c) (lists_of d) n
+          → IsCovered records column (last_in (map_at history) words) (flat_map (λ v. v.items) h.links.items) (flat_map (λ v. v.items) h.spilled.items)
+      home_covered words is bytes drawn =
+          subst (λ (ls : List Link). IsCovered records column (last_in (map_at history) words) ls (flat_map (λ v. v.items) h.spilled.items)) (sym same_links)
+          (subst (λ (ss : List ℕ). IsCovered records column (last_in (map_at history) words) (flat_map (λ (l : List Link). l) links) ss) (sym same_spilled)
+          (covered records column history links made none_past lawful bytes words is (flat_map (λ (l : List ℕ). l) spilled) (all_rows_put drawn)))
 
       were_put : (n : ℕ) (f : Filler) → get_elem? fs n ≡ some f → WerePut records column (numbers_of_blocks records (draws_of f.claim)) (λ number. calls_by n (history number)) (pages_mine f.area)
       were_put n f e = record {
         links = f.links.items;
         spilled = f.spilled.items;
-        put = put_moved records column (numbers_of_blocks records (draws_of f.claim)) (mine_of f.table) (λ number. calls_by n (history number)) (pages_mine f.area) f.links.items f.spilled.items
-            (λ i low. closed.made n i f.table (table_at n f e) low) (λ i low. closed.kept n i f.table (table_at n f e) low) (here_at (HasFilled records column c) fs n f e filled).put;
+        put = put_moved records column (numbers_of_blocks records (draws_of f.claim)) (mine_of f.table) (λ number. calls_by n (history number)) (pages_mine f.area) f.links.items f.spilled.items (λ i. mine n i f e)
+            (here_at (HasFilled records column c) fs n f e filled).put;
       }
 
       pub home_shared : IsShared records column (length h.areas.items) d history h.areas.items
@@ -209,6 +222,6 @@ module _ (records : Table) (column : ℕ) (s : Store) (c : Claims) (fs : List Fi
             let one : b.0 ≡ f.0 = some-injective b.0 f.0 (sym b.1 ∙ f.1) in
             subst (λ (l : List ℕ). WerePut records column (numbers_of_blocks records l) (λ number. calls_by n (history number)) (pages_mine a)) f.2
             (subst (λ (p : AreaPass). WerePut records column (numbers_of_blocks records (draws_of f.0.claim)) (λ number. calls_by n (history number)) (pages_mine p)) (ap (λ (z : Filler). z.area) (sym one) ∙ b.2) (were_put n f.0 f.1));
-        no_others = λ n number low past. closed.no_others n number low (omega (arith, past, callers, tables_count));
-        lawful = closed.lawful;
+        no_others = λ n number low past. no_others number n (omega (arith, past, callers));
+        lawful = lawful;
       }

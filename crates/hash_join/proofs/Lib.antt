@@ -1,15 +1,10 @@
-pub mod Entered
 pub mod Covering
-pub mod Covers
-pub mod Flattened
+pub mod Lasts
 pub mod Homes
 pub mod Gathers
-pub mod Entries
-pub mod Listing
-pub mod Meets
 pub mod Parts
+pub mod Frozen
 pub mod Putting
 pub mod Rounds
-pub mod Seen
 pub mod Ended
 pub mod Fits

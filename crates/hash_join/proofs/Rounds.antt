@@ -15,9 +15,7 @@ use Rattle.hash_join.specs.Home.{AreFilled, AreFillers, AreNew, Became}
 use Rattle.hash_join.specs.Stores.{HasFilled, Holds, IsNew}
 use Rattle.hash_join.specs.declared.filling.Filler.{Filler}
 use Rattle.hash_join.specs.declared.store.Store.{Store}
-use Rattle.hash_join.proofs.Entered.{length-map}
-use Rattle.hash_join.proofs.Flattened.{place_low, some_at}
-use Rattle.hash_join.proofs.Homes.{get_map, here_at, map_get}
+use Rattle.hash_join.proofs.Homes.{get_map, here_at, length-map, map_get, place_low, some_at}
 
 -- ---- lists by their places
 

@@ -37,7 +37,7 @@ done_in entries = done.done_in made_call entries
 
 -- ---- rows
 
--- a chain with so many items takes no new key
+-- a chain with this many items takes no new key
 abbrev pub longest_chain : ℕ
 longest_chain = 64
 

@@ -1,7 +1,7 @@
 pub mod Answers
 pub mod Filled
 pub mod Home
-pub mod Listed
+pub mod Probes
 pub mod Stores
 pub mod Used
 pub mod Widths

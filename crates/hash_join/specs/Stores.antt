@@ -11,7 +11,7 @@ use Rattle.hash_join.specs.Filled.{HasPut}
 use Rattle.hash_join.specs.declared.store.Store.{Store}
 use Rattle.hash_join.specs.declared.filling.Filler.{Filler}
 
--- a table of keys of so many words as the store says, made with an area of the same region
+-- a table of keys of this many words as the store says, made with an area of the same region
 pub record IsStore (s : Store) : Type 0 where
   pub area : IsArea s.region s.area
   pub table : IsTable s.region s.table

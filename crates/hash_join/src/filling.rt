@@ -12,10 +12,9 @@ ghost use Rattle.hash_join.specs.Stores.{DidDraw, DidPut, HasFilled, Holds, IsNe
 ghost use Rattle.hash_join.specs.Widths.{key_words};
 
 use crate::store::Store;
-use crate::widths::cut_key;
+use crate::widths::{cut_key, pack_words};
 use csv_rows::RowStore;
 use dsa_area::AreaPass;
-use dshash_core::pack_key;
 use dshash_parts::DsPass;
 use join_pairs::{LastRow, Link};
 use row_blocks::BLOCK_ROWS;
@@ -24,7 +23,7 @@ use std::alloc::{AllocError, Global};
 use std::sync::Wait;
 use std::sync::atomic::{AtomicBool, Ordering};
 
-/// A chain with so many items takes no new key: whoever chooses the keys can't make a longer one.
+/// A chain with this many items takes no new key: whoever chooses the keys can't make a longer one.
 const LONGEST_CHAIN: u32 = 64;
 
 /// A participant's tokens, and what came of the rows of its blocks.
@@ -68,9 +67,7 @@ fn put_row<R: Wait>(
     if field.is_empty() {
         return Ok(());
     }
-    let Some(packed) = pack_key(field) else {
-        unreachable!()
-    };
+    let packed = pack_words(field, store.key_words);
     let key = cut_key(&packed, store.key_words);
     let put = store.table.call_within(
         rt,

@@ -1,30 +1,31 @@
-//! The first round: the participants put the left rows into the shared table, and the leader makes the chains of it.
+//! The first round: the participants put the left rows into the shared table. The leader ends it, freezes its partitions,
+//! and makes the chains of all left rows.
 
 ghost use Rattle.std.specs.Prelude.{◌≡◌, ◌<◌, ◌≤◌, ℕ, List, All, IfOk, OnOk, [], false, length, map};
-ghost use Rattle.std.specs.List.{AllZip};
-ghost use Rattle.lock_book.specs.Shown.{mine_of, number_of};
-ghost use Rattle.dshash_core.specs.Listing.{pairs_of as entries_of};
-ghost use Rattle.dshash_parts.specs.Ending.{whole_of};
-ghost use Rattle.dshash_parts.specs.Tables.{AreAll, Belongs};
+ghost use Rattle.dshash_parts.specs.Ending.{Ended as HasEnded, whole_of};
+ghost use Rattle.dshash_parts.specs.Tables.{AreAll, map_at};
+ghost use Rattle.frozen_table.specs.Parts.{HaveMaps};
 ghost use Rattle.scan_claim.specs.Shown.{blocks_of};
 ghost use Rattle.row_blocks.specs.Blocks.{AreBlocks};
 ghost use Rattle.rel_pointer.specs.Bytes.{AllBytes};
 ghost use Rattle.csv_rows.specs.Records.{field_of};
+ghost use Rattle.join_pairs.specs.Chains.{last_step};
 ghost use Rattle.join_pairs.specs.Gathered.{ChainsAll};
 ghost use Rattle.join_pairs.specs.Join.{AllAccepted, IsRow, width_of};
-ghost use Rattle.hash_join.specs.Home.{AreFilled, AreFillers, AreNew, HasMet, IsClosed, IsHome};
+ghost use Rattle.hash_join.specs.Home.{AreFilled, AreFillers, AreNew, IsHome};
+ghost use Rattle.hash_join.specs.Probes.{last_in};
 ghost use Rattle.hash_join.specs.Stores.{IsNew, IsStore};
 ghost use Rattle.hash_join.specs.Used.{IsShared};
 ghost use Rattle.hash_join.specs.Widths.{key_words};
 
 use crate::filling::{Filler, fill};
+use crate::probe::Probe;
 use crate::store::{Passes, Store, open_store};
 use crate::widths::count_words;
 use csv_rows::RowStore;
 use dsa_area::AreaPass;
-use dshash_core::Entry;
 use dshash_parts::{ClosedTable, DsPass};
-use dshash_scan::list_all;
+use frozen_table::{FrozenTable, take_all};
 use join_pairs::{Chains, LastRow, Link, chain_all};
 use row_blocks::count_blocks;
 use scan_claim::{ClaimSeat, Claims, Drawn};
@@ -38,9 +39,13 @@ use std::thread::{Threads, for_each_mut};
 pub(crate) struct Gathered {
     /// The chains of all left rows.
     pub(crate) chains: Chains,
+    /// The partitions of the table, with the last row of each key that it took.
+    pub(crate) frozen: FrozenTable<LastRow>,
+    /// The words of a key of the table.
+    pub(crate) key_words: u32,
     /// Which participant drew which blocks.
     pub(crate) drawn: Drawn,
-    /// The table, which is closed.
+    /// The table, which is closed, and whose partitions have been taken out.
     pub(crate) table: ClosedTable<LastRow>,
     /// The participants' passes of the area, in order of their numbers.
     pub(crate) areas: Vec<AreaPass>,
@@ -69,11 +74,11 @@ pub(crate) struct Home {
     pub(crate) spilled: Vec<Vec<u64>>,
 }
 
-/// A table that was closed, and the last row of each key in it.
+/// A table that was closed, and its partitions, which were taken out and frozen.
 #[derive(Drop)]
-struct Listed {
+struct Frozen {
     table: ClosedTable<LastRow>,
-    entries: Vec<Entry<LastRow>>,
+    partitions: FrozenTable<LastRow>,
 }
 
 /// The participants, each with its tokens, which have done nothing yet.
@@ -199,46 +204,27 @@ fn bring_home(alloc: Global, fillers: Vec<Filler>) -> Result<Home, AllocError>
     Ok(home)
 }
 
-/// One pass sees what all others have seen.
-fn meet_others(store: &Store, leader: &mut DsPass<LastRow>, others: &mut [DsPass<LastRow>])
-    requires own { Belongs store.now.table leader.old }
-    requires others { All (Belongs store.now.table) others.old }
-    ensures own { Belongs store.now.table leader.new }
-    ensures caller { number_of leader.new ≡ number_of leader.old }
-    ensures mine { (i : ℕ) → mine_of leader.new i ≡ mine_of leader.old i }
-    ensures met { AllZip (HasMet store.now leader.new) others.old others.new }
+/// Ends the table, and freezes its partitions.
+fn freeze_table(
+    alloc: Global,
+    store: Store,
+    tables: Vec<DsPass<LastRow>>,
+) -> Result<Frozen, AllocError>
+    requires store { IsStore store }
+    requires tables { AreAll store.table tables.items }
+    ensures ended { IfOk result (λ f. HasEnded last_step store.table tables.items f.table) }
+    ensures maps { IfOk result (λ f. HaveMaps (map_at (whole_of f.table)) f.partitions) }
 {
-    for other in others.iter_mut() {
-        store.table.meet(leader, other);
+    let mut table = store.table.close(tables);
+    let partitions = take_all(alloc, &mut table)?;
+    match FrozenTable::freeze(alloc, &store.region, partitions) {
+        Ok(partitions) => Ok(Frozen { table, partitions }),
+        Err(_) => Err(AllocError),
     }
 }
 
-/// Ends the table, after all its entries were listed by one that had seen all of it.
-fn close_table<R: Wait>(
-    rt: &R,
-    alloc: Global,
-    store: Store,
-    mut tables: Vec<DsPass<LastRow>>,
-) -> Result<Listed, AllocError>
-    requires store { IsStore store }
-    requires tables { AreAll store.table tables.items }
-    requires some { 0 < length tables.items }
-    ensures closed { IfOk result (λ l. IsClosed tables.items (whole_of l.table) (entries_of l.entries.items)) }
-{
-    let Some((leader, others)) = tables.as_mut_slice().split_first_mut() else {
-        unreachable!()
-    };
-    meet_others(&store, leader, others);
-    let entries = list_all(rt, alloc, &store.table, &store.region, leader)?;
-    Ok(Listed {
-        table: store.table.close(tables),
-        entries,
-    })
-}
-
 /// What the participants brought home comes to.
-fn end_round<R: Wait>(
-    rt: &R,
+fn end_round(
     alloc: Global,
     rows: &RowStore,
     column: u32,
@@ -247,13 +233,16 @@ fn end_round<R: Wait>(
     home: Home,
 ) -> Result<Gathered, AllocError>
     requires store { IsStore store }
+    requires words { store.key_words ≡ key_words rows.now column }
     requires blocks { AreBlocks rows.now (blocks_of claims) }
     requires column { column < width_of rows.now }
     requires accepted { AllAccepted rows.now column }
     requires bytes { (row : ℕ) → IsRow rows.now row → AllBytes (field_of rows.now row column) }
     requires home { (fillers : List Filler) × IsHome rows.now column store claims fillers home }
     requires some { 0 < length home.areas.items }
-    ensures chains { IfOk result (λ g. ChainsAll rows.now column g.chains) }
+    ensures words { IfOk result (λ g. (1 ≤ g.key_words) × (g.key_words ≤ 32)) }
+    ensures maps { IfOk result (λ g. HaveMaps (map_at (whole_of g.table)) g.frozen) }
+    ensures chains { IfOk result (λ g. ChainsAll rows.now column (last_in (map_at (whole_of g.table)) g.key_words) g.chains) }
     ensures shared { IfOk result (λ g. IsShared rows.now column (length home.areas.items) g.drawn (whole_of g.table) g.areas.items) }
 {
     let Home {
@@ -264,10 +253,14 @@ fn end_round<R: Wait>(
         spilled,
     } = home;
     let drawn = claims.close(seats);
-    let Listed { table, entries } = close_table(rt, alloc, store, tables)?;
-    let chains = chain_all(alloc, rows, column, &entries, &links, &spilled)?;
+    let key_words = store.key_words;
+    let Frozen { table, partitions } = freeze_table(alloc, store, tables)?;
+    let probe = Probe::of(partitions.lookup(), key_words);
+    let chains = chain_all(alloc, rows, column, &probe, &links, &spilled)?;
     Ok(Gathered {
         chains,
+        frozen: partitions,
+        key_words,
         drawn,
         table,
         areas,
@@ -286,7 +279,9 @@ pub(crate) fn gather_rows<R: Threads + Wait + Sync>(
     requires column { column < width_of rows.now }
     requires accepted { AllAccepted rows.now column }
     requires bytes { (row : ℕ) → IsRow rows.now row → AllBytes (field_of rows.now row column) }
-    ensures chains { IfOk result (λ g. ChainsAll rows.now column g.chains) }
+    ensures words { IfOk result (λ g. (1 ≤ g.key_words) × (g.key_words ≤ 32)) }
+    ensures maps { IfOk result (λ g. HaveMaps (map_at (whole_of g.table)) g.frozen) }
+    ensures chains { IfOk result (λ g. ChainsAll rows.now column (last_in (map_at (whole_of g.table)) g.key_words) g.chains) }
     ensures shared { IfOk result (λ g. IsShared rows.now column callers g.drawn (whole_of g.table) g.areas.items) }
 {
     let Round {
@@ -296,5 +291,5 @@ pub(crate) fn gather_rows<R: Threads + Wait + Sync>(
     } = open_round(alloc, rows, column, callers)?;
     fill_all(rt, &store, rows, column, &claims, &mut fillers);
     let home = bring_home(alloc, fillers)?;
-    end_round(rt, alloc, rows, column, store, claims, home)
+    end_round(alloc, rows, column, store, claims, home)
 }

@@ -3,10 +3,12 @@
 //!
 //! A row is known by its number. The table has, under each key, the last row that came with it; a call puts in a row
 //! and is given the row before, which is the row's link. So the links make a chain of all rows of a key, no matter
-//! which participant put them in (`specs/Law.antt`). Rows for which the table finds no room stay with their
-//! participant, and the leader adds them to the chains afterwards. Then nothing is written any more, and the
-//! participants follow the chains of the right rows' keys. The pairs are sorted at last, so they are in order no matter
-//! which participant found them.
+//! which participant put them in (`specs/Law.antt` of `join_pairs`). Rows for which the table finds no room stay with
+//! their participant, and the leader adds them to the chains afterwards.
+//!
+//! Then the table ends, and its partitions are frozen: nothing is written any more, and the participants look up the
+//! right rows' keys by plain loads, with no lock, and follow the chains (`Probe`). The pairs are sorted at last, so they
+//! are in order no matter which participant found them.
 
 #![tactic(auto)]
 
@@ -20,6 +22,7 @@ use dsa_area::AreaPass;
 use dshash_parts::ClosedTable;
 use gathering::gather_rows;
 use join_pairs::{NoPairs, find_pairs, first_refused};
+use probe::Probe;
 use scan_claim::Drawn;
 use std::alloc::Global;
 use std::sync::Wait;
@@ -27,6 +30,7 @@ use std::thread::Threads;
 
 mod filling;
 mod gathering;
+mod probe;
 mod store;
 mod widths;
 
@@ -51,7 +55,8 @@ pub struct Joined {
     pub pairs: Pairs,
     /// Which participant drew which blocks of the left table.
     pub drawn: Drawn,
-    /// The table of the left rows, with the history of each partition.
+    /// The table of the left rows, which has ended: it shows the history of each partition. The partitions themselves
+    /// have been taken out, so [`ClosedTable::take_last`] has none to give.
     pub table: ClosedTable<LastRow>,
     /// The participants' passes of the table's area, in order of their numbers.
     pub areas: Vec<AreaPass>,
@@ -61,8 +66,8 @@ pub struct Joined {
 /// All rows are tested first, those of the left table before those of the right one. The caller's thread and this many
 /// workers take part; fewer threads may start, also none.
 ///
-/// It takes the time of the rows and of the pairs, and of sorting the pairs. Memory is 8.6 MB for the table, 24 bytes a
-/// row of the left table with the bytes of its key, and 32 bytes a pair.
+/// It takes the time of the rows and of the pairs, and of sorting the pairs. Memory is 17 MB for the table, 24 bytes for
+/// each left row, the words of each key and some 70 bytes more, and 32 bytes for each pair.
 pub fn join<R: Threads + Wait + Sync>(
     rt: &R,
     alloc: Global,
@@ -99,7 +104,16 @@ pub fn join<R: Threads + Wait + Sync>(
     let Ok(gathered) = gather_rows(rt, alloc, left, left_column, callers) else {
         return Err(JoinAnswer::Memory);
     };
-    match find_pairs(rt, alloc, &gathered.chains, right, right_column, callers) {
+    let probe = Probe::of(gathered.frozen.lookup(), gathered.key_words);
+    match find_pairs(
+        rt,
+        alloc,
+        &probe,
+        &gathered.chains,
+        right,
+        right_column,
+        callers,
+    ) {
         Ok(pairs) => Ok(Joined {
             pairs,
             drawn: gathered.drawn,

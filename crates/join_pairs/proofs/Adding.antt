@@ -101,16 +101,16 @@ some_same x y e = cc
 
 -- ---- all chains
 
-module _ (records : Table) (column row : ℕ) (rows : List ℕ) (keys : List (List ℕ)) (lasts befores : List ℕ) (c : AreChains records column rows keys lasts befores) (places : length keys ≡ length lasts) (room : row < length befores)
+module _ (records : Table) (column row : ℕ) (rows : List ℕ) (last : List ℕ → ℕ) (keys : List (List ℕ)) (lasts befores : List ℕ) (c : AreChains records column rows last keys lasts befores) (places : length keys ≡ length lasts) (room : row < length befores)
     (away : All (λ r. r ≢ row) rows) (some : row ≢ 0) where
   abbrev key : List ℕ
   key = field_of records row column
 
-  pub extends : (place : ℕ) → slice_get keys place ≡ Some key → AreChains records column (rows ++ row ∷ []) keys (set lasts place row) (set befores row (get_or lasts place 0))
+  pub extends : (place : ℕ) → slice_get keys place ≡ Some key → AreChains records column (rows ++ row ∷ []) last keys (set lasts place row) (set befores row (get_or lasts place 0))
   extends place is = record {
     once = c.once;
     chains = λ p k e. by p k e (p == place) refl;
-    absent = λ k none. other_key records column befores rows k row (get_or lasts place 0) 0 away (λ same. none place (subst (λ (l : List ℕ). slice_get keys place ≡ Some l) same is)) (c.absent k none);
+    absent = λ k none. other_key records column befores rows k row (get_or lasts place 0) (last k) away (λ same. none place (subst (λ (l : List ℕ). slice_get keys place ≡ Some l) same is)) (c.absent k none);
   }
     where
       within : place < length lasts
@@ -120,20 +120,20 @@ module _ (records : Table) (column row : ℕ) (rows : List ℕ) (keys : List (Li
       by p k e true t =
           let same : p ≡ place = grind (arith, t) in
           let own : key ≡ k = some_same key k (sym is ∙ ap (slice_get keys) (sym same) ∙ e) in
-          let last : get_or (set lasts place row) p 0 ≡ row = ap (λ n. get_or (set lasts place row) n 0) same ∙ (let w = within in rw get_or-set_same refl) in
-          subst (λ n. HasChain (before_in (set befores row (get_or lasts place 0))) records column (rows ++ row ∷ []) k n) (sym last)
+          let end : get_or (set lasts place row) p 0 ≡ row = ap (λ n. get_or (set lasts place row) n 0) same ∙ (let w = within in rw get_or-set_same refl) in
+          subst (λ n. HasChain (before_in (set befores row (get_or lasts place 0))) records column (rows ++ row ∷ []) k n) (sym end)
           (own_key records column befores rows k row (get_or lasts place 0) away some room own (subst (λ n. HasChain (before_in befores) records column rows k (get_or lasts n 0)) same (c.chains p k e)))
       by p k e false t =
           let other : p ≢ place = grind (arith, t) in
-          let last : get_or (set lasts place row) p 0 ≡ get_or lasts p 0 = rw get_or-set_other refl in
-          subst (λ n. HasChain (before_in (set befores row (get_or lasts place 0))) records column (rows ++ row ∷ []) k n) (sym last)
+          let end : get_or (set lasts place row) p 0 ≡ get_or lasts p 0 = rw get_or-set_other refl in
+          subst (λ n. HasChain (before_in (set befores row (get_or lasts place 0))) records column (rows ++ row ∷ []) k n) (sym end)
           (other_key records column befores rows k row (get_or lasts place 0) (get_or lasts p 0) away (λ same. other (c.once p place k e (subst (λ (l : List ℕ). slice_get keys place ≡ Some l) same is))) (c.chains p k e))
 
-  pub begins : ((place : ℕ) → slice_get keys place ≡ Some key → ⊥) → AreChains records column (rows ++ row ∷ []) (keys ++ key ∷ []) (lasts ++ row ∷ []) (set befores row 0)
+  pub begins : ((place : ℕ) → slice_get keys place ≡ Some key → ⊥) → AreChains records column (rows ++ row ∷ []) last (keys ++ key ∷ []) (lasts ++ row ∷ []) (set befores row (last key))
   begins none = record {
     once = λ p q k e f. both p q k (get_pushed keys key p k e) (get_pushed keys key q k f);
     chains = λ p k e. by p k (get_pushed keys key p k e);
-    absent = λ k away'. other_key records column befores rows k row 0 0 away (λ same. away' (length keys) (get_last keys key ∙ ap Some same)) (c.absent k (λ p e. away' p (get_kept keys key p k e)));
+    absent = λ k away'. other_key records column befores rows k row (last key) (last k) away (λ same. away' (length keys) (get_last keys key ∙ ap Some same)) (c.absent k (λ p e. away' p (get_kept keys key p k e)));
   }
     where
       both : (p q : ℕ) (k : List ℕ) → (slice_get keys p ≡ Some k) ⊎ ((p ≡ length keys) × (key ≡ k)) → (slice_get keys q ≡ Some k) ⊎ ((q ≡ length keys) × (key ≡ k)) → p ≡ q
@@ -142,26 +142,27 @@ module _ (records : Table) (column row : ℕ) (rows : List ℕ) (keys : List (Li
       both p q k (inr e) (inl f) = absurd (none q (f ∙ ap Some (sym e.1)))
       both p q k (inr e) (inr f) = e.0 ∙ sym f.0
 
-      by : (p : ℕ) (k : List ℕ) → (slice_get keys p ≡ Some k) ⊎ ((p ≡ length keys) × (key ≡ k)) → HasChain (before_in (set befores row 0)) records column (rows ++ row ∷ []) k (get_or (lasts ++ row ∷ []) p 0)
+      by : (p : ℕ) (k : List ℕ) → (slice_get keys p ≡ Some k) ⊎ ((p ≡ length keys) × (key ≡ k)) → HasChain (before_in (set befores row (last key))) records column (rows ++ row ∷ []) k (get_or (lasts ++ row ∷ []) p 0)
       by p k (inl e) =
           let within : p < length lasts = omega (arith, get_below keys p k e, places) in
-          subst (λ n. HasChain (before_in (set befores row 0)) records column (rows ++ row ∷ []) k n) (sym (or_kept lasts row p within))
-          (other_key records column befores rows k row 0 (get_or lasts p 0) away (λ same. none p (e ∙ ap Some (sym same))) (c.chains p k e))
+          subst (λ n. HasChain (before_in (set befores row (last key))) records column (rows ++ row ∷ []) k n) (sym (or_kept lasts row p within))
+          (other_key records column befores rows k row (last key) (get_or lasts p 0) away (λ same. none p (e ∙ ap Some (sym same))) (c.chains p k e))
       by p k (inr e) =
-          let last : get_or (lasts ++ row ∷ []) p 0 ≡ row = ap (λ n. get_or (lasts ++ row ∷ []) n 0) (e.0 ∙ places) ∙ or_last lasts row in
-          subst (λ n. HasChain (before_in (set befores row 0)) records column (rows ++ row ∷ []) k n) (sym last)
-          (own_key records column befores rows k row 0 away some room e.1 (c.absent k (λ q f. none q (f ∙ ap Some (sym e.1)))))
+          let end : get_or (lasts ++ row ∷ []) p 0 ≡ row = ap (λ n. get_or (lasts ++ row ∷ []) n 0) (e.0 ∙ places) ∙ or_last lasts row in
+          subst (λ n. HasChain (before_in (set befores row (last key))) records column (rows ++ row ∷ []) k n) (sym end)
+          (own_key records column befores rows k row (last key) away some room e.1
+          (subst (λ n. HasChain (before_in befores) records column rows k n) (sym (ap last e.1)) (c.absent k (λ q f. none q (f ∙ ap Some (sym e.1))))))
 
 -- a row that is added has its place in the chain of its key
-pub adds_row : (records : Table) (column row : ℕ) (rows : List ℕ) (c d : Chains) → HasChains records column rows c → HasPlaces c → HasRoom c row → All (λ r. r ≢ row) rows → row ≢ 0
-    → AddsRow (field_of records row column) row c d → HasChains records column (rows ++ row ∷ []) d
-adds_row records column row rows c d h places room away some (inl (place, e)) =
-    let lists = extends records column row rows c.keys c.lasts.items c.befores.items h places room away some place e.is in
-    subst (λ (ks : List (List ℕ)). AreChains records column (rows ++ row ∷ []) ks d.lasts.items d.befores.items) (sym e.keys)
-    (subst (λ (ls : List ℕ). AreChains records column (rows ++ row ∷ []) c.keys ls d.befores.items) (sym e.lasts)
-    (subst (λ (bs : List ℕ). AreChains records column (rows ++ row ∷ []) c.keys (set c.lasts.items place row) bs) (sym e.befores) lists))
-adds_row records column row rows c d h places room away some (inr b) =
-    let lists = begins records column row rows c.keys c.lasts.items c.befores.items h places room away some b.absent in
-    subst (λ (ks : List (List ℕ)). AreChains records column (rows ++ row ∷ []) ks d.lasts.items d.befores.items) (sym b.keys)
-    (subst (λ (ls : List ℕ). AreChains records column (rows ++ row ∷ []) (c.keys ++ field_of records row column ∷ []) ls d.befores.items) (sym b.lasts)
-    (subst (λ (bs : List ℕ). AreChains records column (rows ++ row ∷ []) (c.keys ++ field_of records row column ∷ []) (c.lasts.items ++ row ∷ []) bs) (sym b.befores) lists))
+pub adds_row : (records : Table) (column row : ℕ) (rows : List ℕ) (last : List ℕ → ℕ) (c d : Chains) → HasChains records column rows last c → HasPlaces c → HasRoom c row → All (λ r. r ≢ row) rows → row ≢ 0
+    → AddsRow last (field_of records row column) row c d → HasChains records column (rows ++ row ∷ []) last d
+adds_row records column row rows last c d h places room away some (inl (place, e)) =
+    let lists = extends records column row rows last c.keys c.lasts.items c.befores.items h places room away some place e.is in
+    subst (λ (ks : List (List ℕ)). AreChains records column (rows ++ row ∷ []) last ks d.lasts.items d.befores.items) (sym e.keys)
+    (subst (λ (ls : List ℕ). AreChains records column (rows ++ row ∷ []) last c.keys ls d.befores.items) (sym e.lasts)
+    (subst (λ (bs : List ℕ). AreChains records column (rows ++ row ∷ []) last c.keys (set c.lasts.items place row) bs) (sym e.befores) lists))
+adds_row records column row rows last c d h places room away some (inr b) =
+    let lists = begins records column row rows last c.keys c.lasts.items c.befores.items h places room away some b.absent in
+    subst (λ (ks : List (List ℕ)). AreChains records column (rows ++ row ∷ []) last ks d.lasts.items d.befores.items) (sym b.keys)
+    (subst (λ (ls : List ℕ). AreChains records column (rows ++ row ∷ []) last (c.keys ++ field_of records row column ∷ []) ls d.befores.items) (sym b.lasts)
+    (subst (λ (bs : List ℕ). AreChains records column (rows ++ row ∷ []) last (c.keys ++ field_of records row column ∷ []) (c.lasts.items ++ row ∷ []) bs) (sym b.befores) lists))

@@ -57,14 +57,14 @@ module _ (left right : Table) (left_column right_column : ℕ) where
   pub row_none : (old : List Pair) (r : ℕ) → is_null (field_of right r right_column) ≡ true → IsPermutation (old ++ of r) old
   row_none old r none = subst (λ l. IsPermutation (old ++ l) old) (sym (none_found left right left_column right_column r none)) (subst (λ l. IsPermutation l old) (sym (append-nil old)) (IsPermutation-refl old))
 
-  pub row_some : (c : Chains) (old new : List Pair) (r last : ℕ) (all : ChainsAll left left_column c) → is_null (field_of right r right_column) ≡ false
+  pub row_some : (lasts : List ℕ → ℕ) (c : Chains) (old new : List Pair) (r last : ℕ) (all : ChainsAll left left_column lasts c) → is_null (field_of right r right_column) ≡ false
       → (h : HasChain (before_in c.befores.items) left left_column all.rows (field_of right r right_column) last) → new ≡ old ++ pairs_with r h.chain → IsPermutation (old ++ of r) new
-  row_some c old new r last all some h e =
+  row_some lasts c old new r last all some h e =
       subst (IsPermutation (old ++ of r)) (sym e) (IsPermutation-append_right old (of r) (pairs_with r h.chain) (chain_found left right left_column right_column (before_in c.befores.items) all.rows r last some all.all h))
 
-  pub row_stops : (c : Chains) (old : List Pair) (r last : ℕ) (all : ChainsAll left left_column c) → is_null (field_of right r right_column) ≡ false
+  pub row_stops : (lasts : List ℕ → ℕ) (c : Chains) (old : List Pair) (r last : ℕ) (all : ChainsAll left left_column lasts c) → is_null (field_of right r right_column) ≡ false
       → (h : HasChain (before_in c.befores.items) left left_column all.rows (field_of right r right_column) last) → (why : NoPairs) → StopsAdding (length old + length h.chain) why → StopsAdding (length old + length (of r)) why
-  row_stops c old r last all some h TooMany more =
+  row_stops lasts c old r last all some h TooMany more =
       let count : length (of r) ≡ length h.chain =
       sym (length_permutation (of r) (pairs_with r h.chain) (chain_found left right left_column right_column (before_in c.befores.items) all.rows r last some all.all h)) ∙ with_count h.chain in
       omega (arith, more, count)
@@ -72,7 +72,7 @@ module _ (left right : Table) (left_column right_column : ℕ) where
       with_count : (xs : List ℕ) → length (pairs_with r xs) ≡ length xs
       with_count [] = refl
       with_count (x ∷ xs) = ap suc (with_count xs)
-  row_stops c old r last all some h Memory more = tt
+  row_stops lasts c old r last all some h Memory more = tt
 
   -- a participant that stops at a block has too many with the blocks that it drew
   pub block_stops : (mid : List Pair) (xs ys draws : List ℕ) (why : NoPairs) → numbers_of_blocks right draws ≡ xs ++ ys → IsPermutation (found xs) mid → StopsAdding (length mid + length (found ys)) why

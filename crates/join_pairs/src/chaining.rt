@@ -8,9 +8,8 @@ ghost use Rattle.join_pairs.specs.Gathered.{AreApart, ChainsAll, HasChains, HasL
 ghost use Rattle.join_pairs.specs.Join.{AllAccepted, IsRow, width_of};
 
 use crate::chains::{Chains, Link};
-use crate::last_row::LastRow;
+use crate::lasts::Lasts;
 use csv_rows::RowStore;
-use dshash_core::Entry;
 use std::alloc::{AllocError, Global};
 
 /// Sets the rows before those of several lists.
@@ -26,39 +25,11 @@ fn link_rows(chains: &mut Chains, links: &Vec<Vec<Link>>)
     }
 }
 
-/// Adds the chain of each entry of the table.
-fn add_entries(
-    chains: &mut Chains,
-    alloc: Global,
-    rows: &RowStore,
-    column: u32,
-    entries: &Vec<Entry<LastRow>>,
-) -> Result<(), AllocError>
-    requires column { column < width_of rows.now }
-    requires accepted { AllAccepted rows.now column }
-    requires rows { All (λ (e : List ℕ × ℕ). IsRow rows.now e.1) (entries_of entries.now.items) }
-    requires empty { (chains.old.keys ≡ []) × (chains.old.lasts.items ≡ []) }
-    ensures places { OnOk result (HasPlaces chains.new) }
-    ensures keys { OnOk result (chains.new.keys
-        ≡ map (λ (e : List ℕ × ℕ). field_of rows.now e.1 column) (entries_of entries.now.items)) }
-    ensures lasts { OnOk result (chains.new.lasts.items
-        ≡ map (λ (e : List ℕ × ℕ). e.1) (entries_of entries.now.items)) }
-    ensures befores { chains.new.befores ≡ chains.old.befores }
-{
-    for entry in entries {
-        let last = entry.state;
-        match chains.add_key(alloc, rows.field(last, column), last) {
-            Ok(()) => {}
-            Err(lack) => return Err(lack),
-        }
-    }
-    Ok(())
-}
-
 /// Adds rows for which the table found no space, each to the chain of its key.
-fn add_rows(
+fn add_rows<L: Lasts>(
     chains: &mut Chains,
     alloc: Global,
+    table: &L,
     rows: &RowStore,
     column: u32,
     list: &[u64],
@@ -71,10 +42,10 @@ fn add_rows(
     ensures places { OnOk result (HasPlaces chains.new) }
     ensures room { length chains.new.befores.items ≡ length chains.old.befores.items }
     ensures added { OnOk result ((known : List ℕ) → AreApart known list.now
-        → HasChains rows.now column known chains.old → HasChains rows.now column (known ++ list.now) chains.new) }
+        → HasChains rows.now column known (L.last_of table.now) chains.old → HasChains rows.now column (known ++ list.now) (L.last_of table.now) chains.new) }
 {
     for row in list {
-        match chains.add_row(alloc, rows.field(*row, column), *row) {
+        match chains.add_row(alloc, table, rows.field(*row, column), *row) {
             Ok(()) => {}
             Err(lack) => return Err(lack),
         }
@@ -83,25 +54,24 @@ fn add_rows(
 }
 
 /// The chains of all rows: those of the table, and then the rows that it did not take.
-pub fn chain_all(
+pub fn chain_all<L: Lasts>(
     alloc: Global,
     rows: &RowStore,
     column: u32,
-    entries: &Vec<Entry<LastRow>>,
+    table: &L,
     links: &Vec<Vec<Link>>,
     spilled: &Vec<Vec<u64>>,
 ) -> Result<Chains, AllocError>
     requires column { column < width_of rows.now }
     requires accepted { AllAccepted rows.now column }
-    requires covered { IsCovered rows.now column (entries_of entries.now.items)
+    requires covered { IsCovered rows.now column (L.last_of table.now)
         (flat_map (λ v. v.items) links.now.items) (flat_map (λ v. v.items) spilled.now.items) }
-    ensures { IfOk result (λ c. ChainsAll rows.now column c) }
+    ensures { IfOk result (λ c. ChainsAll rows.now column (L.last_of table.now) c) }
 {
     let mut chains = Chains::new(alloc, rows.count())?;
     link_rows(&mut chains, links);
-    add_entries(&mut chains, alloc, rows, column, entries)?;
     for list in spilled {
-        match add_rows(&mut chains, alloc, rows, column, list.as_slice()) {
+        match add_rows(&mut chains, alloc, table, rows, column, list.as_slice()) {
             Ok(()) => {}
             Err(lack) => return Err(lack),
         }

@@ -5,6 +5,7 @@ ghost use Rattle.row_blocks.specs.Blocks.{Table};
 ghost use Rattle.join_pairs.specs.Chains.{HasChain, before_in};
 ghost use Rattle.join_pairs.specs.Gathered.{AddsRow, HasChains, HasLinks, HasPlaces, HasRoom};
 
+use crate::lasts::Lasts;
 use key_index::KeyTable;
 use std::alloc::{AllocError, Global};
 
@@ -15,10 +16,11 @@ pub struct Link {
     pub before: u64,
 }
 
-/// The last row of each key, and the row before each row. No row has the number 0, which ends a chain.
+/// The row before each row, and the last row of each key to which a row was added that no table had. No row has the
+/// number 0, which ends a chain.
 #[derive(Drop)]
 pub struct Chains {
-    /// The keys, each once.
+    /// The keys to which rows were added, each once.
     keys: KeyTable,
     /// The last row of the key at each place.
     lasts: Vec<u64>,
@@ -64,12 +66,18 @@ impl Chains {
     }
 
     /// A row goes to the end of the chain of its key.
-    pub(crate) fn add_row(&mut self, alloc: Global, key: &[u8], row: u64) -> Result<(), AllocError>
+    pub(crate) fn add_row<L: Lasts>(
+        &mut self,
+        alloc: Global,
+        table: &L,
+        key: &[u8],
+        row: u64,
+    ) -> Result<(), AllocError>
         requires places { HasPlaces self.old }
         requires room { HasRoom self.old row }
         ensures places { OnOk result (HasPlaces self.new) }
         ensures room { length self.new.befores.items ≡ length self.old.befores.items }
-        ensures added { OnOk result (AddsRow key.now row self.old self.new) }
+        ensures added { OnOk result (AddsRow (L.last_of table.now) key.now row self.old self.new) }
     {
         match self.keys.find(key) {
             Some(place) => {
@@ -78,20 +86,20 @@ impl Chains {
                 Ok(())
             }
             None => {
-                self.befores[row as usize] = 0;
+                self.befores[row as usize] = table.last(key);
                 self.add_key(alloc, key, row)
             }
         }
     }
 
     /// The last row of a key, or 0 if it has none.
-    pub(crate) fn last(&self, key: &[u8]) -> u64
-        ensures { (records : Table) (column : ℕ) (rows : List ℕ) → HasChains records column rows self.now
+    pub(crate) fn last<L: Lasts>(&self, table: &L, key: &[u8]) -> u64
+        ensures { (records : Table) (column : ℕ) (rows : List ℕ) → HasChains records column rows (L.last_of table.now) self.now
             → HasChain (before_in self.now.befores.items) records column rows key.now result }
     {
         match self.keys.find(key) {
             Some(place) => self.lasts.get(place).copied().unwrap_or(0),
-            None => 0,
+            None => table.last(key),
         }
     }
 

@@ -17,6 +17,7 @@ ghost use Rattle.join_pairs.specs.Pairing.{AreSameSeats, FinderFound, IsNewFinde
 ghost use Rattle.join_pairs.specs.declared.pairing.NoPairs.TheVariants as reason;
 
 use crate::chains::Chains;
+use crate::lasts::Lasts;
 use crate::pairs::{Pair, Pairs};
 use csv_rows::RowStore;
 use row_blocks::{BLOCK_ROWS, count_blocks};
@@ -73,7 +74,8 @@ fn follow(chains: &Chains, last: u64, right: u64, pairs: &mut Vec<Pair>) -> Resu
 }
 
 /// Adds the pairs of a row.
-fn find_row(
+fn find_row<L: Lasts>(
+    table: &L,
     chains: &Chains,
     rows: &RowStore,
     column: u32,
@@ -85,20 +87,21 @@ fn find_row(
     requires column { column < width_of rows.now }
     requires few { length pairs.old.items ≤ most_pairs }
     ensures few { length pairs.new.items ≤ most_pairs }
-    ensures added { OnOk result ((left : Table) (c : ℕ) → ChainsAll left c chains.now
+    ensures added { OnOk result ((left : Table) (c : ℕ) → ChainsAll left c (L.last_of table.now) chains.now
         → IsPermutation (pairs.old.items ++ found_of left rows.now c column row) pairs.new.items) }
-    ensures stopped { IfErr result (λ why. (left : Table) (c : ℕ) → ChainsAll left c chains.now
+    ensures stopped { IfErr result (λ why. (left : Table) (c : ℕ) → ChainsAll left c (L.last_of table.now) chains.now
         → StopsAdding (length pairs.old.items + length (found_of left rows.now c column row)) why) }
 {
     let field = rows.field(row, column);
     if field.is_empty() {
         return Ok(());
     }
-    follow(chains, chains.last(field), row, pairs)
+    follow(chains, chains.last(table, field), row, pairs)
 }
 
 /// Adds the pairs of the rows of a block.
-fn find_block(
+fn find_block<L: Lasts>(
+    table: &L,
     chains: &Chains,
     rows: &RowStore,
     column: u32,
@@ -110,10 +113,10 @@ fn find_block(
     requires column { column < width_of rows.now }
     requires few { length pairs.old.items ≤ most_pairs }
     ensures few { length pairs.new.items ≤ most_pairs }
-    ensures added { OnOk result ((left : Table) (c : ℕ) → ChainsAll left c chains.now
+    ensures added { OnOk result ((left : Table) (c : ℕ) → ChainsAll left c (L.last_of table.now) chains.now
         → IsPermutation (pairs.old.items ++ found_in left rows.now c column (block_numbers rows.now block))
         pairs.new.items) }
-    ensures stopped { IfErr result (λ why. (left : Table) (c : ℕ) → ChainsAll left c chains.now
+    ensures stopped { IfErr result (λ why. (left : Table) (c : ℕ) → ChainsAll left c (L.last_of table.now) chains.now
         → StopsAdding (length pairs.old.items
         + length (found_in left rows.now c column (block_numbers rows.now block))) why) }
 {
@@ -121,7 +124,7 @@ fn find_block(
     let first = BLOCK_ROWS * block + 1;
     let count = (last - first + 1).min(BLOCK_ROWS);
     for at in 0..count {
-        match find_row(chains, rows, column, first + at, pairs) {
+        match find_row(table, chains, rows, column, first + at, pairs) {
             Ok(()) => {}
             Err(why) => return Err(why),
         }
@@ -130,8 +133,9 @@ fn find_block(
 }
 
 /// Draws blocks until there are no more or another participant has stopped, and adds the pairs of their rows.
-fn find_blocks<R: Wait>(
+fn find_blocks<R: Wait, L: Lasts>(
     rt: &R,
+    table: &L,
     chains: &Chains,
     rows: &RowStore,
     column: u32,
@@ -147,9 +151,9 @@ fn find_blocks<R: Wait>(
     requires new { (draws_of claim.old ≡ []) × (pairs.old.items ≡ []) }
     ensures seat { Belongs claims.now claim.new × (number_of claim.new ≡ number_of claim.old) }
     ensures few { length pairs.new.items ≤ most_pairs }
-    ensures found { OnOk result ((left : Table) (c : ℕ) → ChainsAll left c chains.now
+    ensures found { OnOk result ((left : Table) (c : ℕ) → ChainsAll left c (L.last_of table.now) chains.now
         → HasFound left rows.now c column claims.now (draws_of claim.new) pairs.new.items) }
-    ensures stopped { IfErr result (λ why. (left : Table) (c : ℕ) → ChainsAll left c chains.now
+    ensures stopped { IfErr result (λ why. (left : Table) (c : ℕ) → ChainsAll left c (L.last_of table.now) chains.now
         → Stops left rows.now c column (draws_of claim.new) why) }
 {
     for _ in rt.forever() {
@@ -159,7 +163,7 @@ fn find_blocks<R: Wait>(
         let Some(block) = claim.claim(claims) else {
             return Ok(());
         };
-        match find_block(chains, rows, column, block, pairs) {
+        match find_block(table, chains, rows, column, block, pairs) {
             Ok(()) => {}
             Err(why) => return Err(why),
         }
@@ -168,8 +172,9 @@ fn find_blocks<R: Wait>(
 }
 
 /// What a participant does, from its beginning to its end.
-fn find<R: Wait>(
+fn find<R: Wait, L: Lasts>(
     rt: &R,
+    table: &L,
     chains: &Chains,
     rows: &RowStore,
     column: u32,
@@ -183,11 +188,12 @@ fn find<R: Wait>(
     requires new { IsNewFinder claims.now finder.old }
     ensures seat { Belongs claims.now finder.new.claim × (number_of finder.new.claim ≡ number_of finder.old.claim) }
     ensures few { length finder.new.finding.pairs.items ≤ most_pairs }
-    ensures found { (left : Table) (c : ℕ) → ChainsAll left c chains.now
+    ensures found { (left : Table) (c : ℕ) → ChainsAll left c (L.last_of table.now) chains.now
         → FinderFound left rows.now c column claims.now finder.new }
 {
     let found = find_blocks(
         rt,
+        table,
         chains,
         rows,
         column,
@@ -224,8 +230,9 @@ fn finders(alloc: Global, seats: Vec<ClaimSeat>) -> Result<Vec<Finder>, AllocErr
 }
 
 /// All participants add the pairs of the blocks that they draw.
-fn find_all<R: Threads + Wait + Sync>(
+fn find_all<R: Threads + Wait + Sync, L: Lasts>(
     rt: &R,
+    table: &L,
     chains: &Chains,
     rows: &RowStore,
     column: u32,
@@ -238,7 +245,7 @@ fn find_all<R: Threads + Wait + Sync>(
     requires new { All (IsNewFinder claims.now) finders.old.items }
     ensures seats { AreSameSeats claims.now finders.old.items finders.new.items }
     ensures few { All (λ (f : Finder). length f.finding.pairs.items ≤ most_pairs) finders.new.items }
-    ensures found { All (λ (f : Finder). (left : Table) (c : ℕ) → ChainsAll left c chains.now
+    ensures found { All (λ (f : Finder). (left : Table) (c : ℕ) → ChainsAll left c (L.last_of table.now) chains.now
         → FinderFound left rows.now c column claims.now f) finders.new.items }
 {
     let threads = finders.len().max(1);
@@ -247,7 +254,12 @@ fn find_all<R: Threads + Wait + Sync>(
         rt,
         finders.as_mut_slice(),
         threads,
-        &|_, finder| { find(rt, chains, rows, column, claims, &stop, finder) },
+        &|_place: usize, finder: &mut Finder|
+            requires { AreBlocks rows.now (blocks_of claims.now) × AllAccepted rows.now column × (column < width_of rows.now) × IsNewFinder claims.now finder.now }
+            ensures { (Belongs claims.entry.now finder.exit.now.claim × (number_of finder.exit.now.claim ≡ number_of finder.entry.now.claim))
+                × (length finder.exit.now.finding.pairs.items ≤ most_pairs)
+                × ((left : Table) (c : ℕ) → ChainsAll left c (L.last_of table.entry.now) chains.entry.now → FinderFound left rows.entry.now c column claims.entry.now finder.exit.now) }
+        { find(rt, table, chains, rows, column, claims, &stop, finder) },
     );
 }
 
@@ -325,9 +337,10 @@ fn first_stop(findings: &Vec<Finding>) -> Option<NoPairs>
 
 /// The second round, with this many participants: the pairs in order. That the seats come home proves that each block
 /// was drawn once.
-pub fn find_pairs<R: Threads + Wait + Sync>(
+pub fn find_pairs<R: Threads + Wait + Sync, L: Lasts>(
     rt: &R,
     alloc: Global,
+    table: &L,
     chains: &Chains,
     rows: &RowStore,
     column: u32,
@@ -336,10 +349,10 @@ pub fn find_pairs<R: Threads + Wait + Sync>(
     requires callers { 1 ≤ callers }
     requires accepted { AllAccepted rows.now column }
     requires column { column < width_of rows.now }
-    ensures pairs { IfOk result (λ pairs. (left : Table) (c : ℕ) → ChainsAll left c chains.now
+    ensures pairs { IfOk result (λ pairs. (left : Table) (c : ℕ) → ChainsAll left c (L.last_of table.now) chains.now
         → pairs ≡ pairs_of left rows.now c column) }
     ensures few { IfOk result (λ pairs. length pairs ≤ most_pairs) }
-    ensures none { IfErr result (λ why. (left : Table) (c : ℕ) → ChainsAll left c chains.now
+    ensures none { IfErr result (λ why. (left : Table) (c : ℕ) → ChainsAll left c (L.last_of table.now) chains.now
         → HasNone left rows.now c column why) }
 {
     let Ok((claims, seats)) = Claims::new(alloc, count_blocks(rows), callers) else {
@@ -348,7 +361,7 @@ pub fn find_pairs<R: Threads + Wait + Sync>(
     let Ok(mut finders) = finders(alloc, seats) else {
         return Err(NoPairs::Memory);
     };
-    find_all(rt, chains, rows, column, &claims, &mut finders);
+    find_all(rt, table, chains, rows, column, &claims, &mut finders);
     let Ok((seats, findings)) = take_apart(alloc, finders) else {
         return Err(NoPairs::Memory);
     };

@@ -9,8 +9,8 @@ ghost use Rattle.row_blocks.specs.Blocks.{numbers_of};
 use csv_rows::{RowStore, rows};
 use dshash_core::CellObject;
 use join_pairs::{
-    Chains, LastRow, NoPairs, Pairs, cells_are_chains, chain_all, find_pairs, first_refused,
-    pairs_are_join,
+    Chains, LastRow, NoPairs, NoTable, Pairs, cells_are_chains, chain_all, find_pairs,
+    first_refused, pairs_are_join,
 };
 use std::alloc::{AllocError, Global};
 use std::sync::Wait;
@@ -36,18 +36,11 @@ fn keyed_rows(alloc: Global, rows: &RowStore, column: u32) -> Result<Vec<u64>, A
 fn chains_alone(alloc: Global, rows: &RowStore, column: u32) -> Result<Chains, AllocError>
     requires column { column < width_of rows.now }
     requires accepted { AllAccepted rows.now column }
-    ensures { IfOk result (λ c. ChainsAll rows.now column c) }
+    ensures { IfOk result (λ c. ChainsAll rows.now column (λ _. 0) c) }
 {
     let mut spilled = Vec::new(alloc);
     spilled.push(keyed_rows(alloc, rows, column)?)?;
-    chain_all(
-        alloc,
-        rows,
-        column,
-        &Vec::new(alloc),
-        &Vec::new(alloc),
-        &spilled,
-    )
+    chain_all(alloc, rows, column, &NoTable, &Vec::new(alloc), &spilled)
 }
 
 /// The pairs of two tables, without a shared one.
@@ -67,7 +60,7 @@ fn pairs_alone<R: Threads + Wait + Sync>(
     ensures { IfOk result (λ pairs. pairs ≡ pairs_of left.now right.now columns.0 columns.1) }
 {
     match chains_alone(alloc, left, columns.0) {
-        Ok(chains) => find_pairs(rt, alloc, &chains, right, columns.1, callers),
+        Ok(chains) => find_pairs(rt, alloc, &NoTable, &chains, right, columns.1, callers),
         Err(_) => Err(NoPairs::Memory),
     }
 }

@@ -1,7 +1,6 @@
 use Rattle.std.proofs.Common.{◌≡◌, ◌++◌, ◌∷◌, [], ℕ, List, true, false, ap, sym, subst, ◌∙◌}
 use Rattle.csv_rows.specs.Records.{field_of}
 use Rattle.dsa_area.specs.Shown.{pages_mine}
-use Rattle.dshash_core.specs.Key.{packed_key}
 use Rattle.dshash_parts.specs.Promises.{CallMade}
 use Rattle.dshash_parts.specs.Tables.{item_of}
 use Rattle.dshash_parts.specs.Traces.{sight_of}
@@ -27,7 +26,7 @@ returns-in-Ok-push-clause-put g c =
     let f = c.args.filler.now in
     let s = c.args.store.now in
     let some : is_null (field_of c.args.rows.now c.args.row c.args.column) ≡ false = ap is_null (sym c.field-field.ensures) ∙ sym c.is_empty.ensures ∙ c.if-is_empty.false in
-    let key : c.cut_key-key.result.now ≡ key_of c.args.rows.now c.args.column c.args.row = key_is c.args.rows.now c.args.column c.args.row s.key_words c.in-Some.packed c.cut_key-key.result.now c.requires.words c.requires.store.short (c.in-Some.ensures.key ∙ ap packed_key c.field-field.ensures) c.cut_key-key.ensures in
+    let key : c.cut_key-key.result.now ≡ key_of c.args.rows.now c.args.column c.args.row = key_is c.args.rows.now c.args.column c.args.row s.key_words c.pack_words-packed.result c.cut_key-key.result.now c.field-field.result.now c.requires.words c.pack_words-packed.ensures c.field-field.ensures c.cut_key-key.ensures in
     let made = subst (λ (k : List ℕ). CallMade last_step s.table s.area f.table f.area c.call_within-put.new.pass c.call_within-put.new.apass k c.args.row c.in-Ok.before) key c.in-Ok.ensures.made in
     λ list h.
     subst (λ (ls : _). HasPut c.args.rows.now c.args.column (list ++ c.args.row ∷ []) (mine_of c.call_within-put.new.pass) (pages_mine c.call_within-put.new.apass) ls f.spilled.items) (sym c.in-Ok-push.ensures.items)
@@ -39,7 +38,7 @@ returns-in-Ok-push-2-clause-put g c =
     let f = c.args.filler.now in
     let s = c.args.store.now in
     let some : is_null (field_of c.args.rows.now c.args.row c.args.column) ≡ false = ap is_null (sym c.field-field.ensures) ∙ sym c.is_empty.ensures ∙ c.if-is_empty.false in
-    let key : c.cut_key-key.result.now ≡ key_of c.args.rows.now c.args.column c.args.row = key_is c.args.rows.now c.args.column c.args.row s.key_words c.in-Some.packed c.cut_key-key.result.now c.requires.words c.requires.store.short (c.in-Some.ensures.key ∙ ap packed_key c.field-field.ensures) c.cut_key-key.ensures in
+    let key : c.cut_key-key.result.now ≡ key_of c.args.rows.now c.args.column c.args.row = key_is c.args.rows.now c.args.column c.args.row s.key_words c.pack_words-packed.result c.cut_key-key.result.now c.field-field.result.now c.requires.words c.pack_words-packed.ensures c.field-field.ensures c.cut_key-key.ensures in
     let ended = subst (λ (k : List ℕ). CallEnded last_step s.table s.area f.table f.area c.call_within-put.new.pass c.call_within-put.new.apass k c.args.row longest_chain c.in-Err.field-0) key c.in-Err.ensures.refused in
     λ list h.
     subst (λ (ss : List ℕ). HasPut c.args.rows.now c.args.column (list ++ c.args.row ∷ []) (mine_of c.call_within-put.new.pass) (pages_mine c.call_within-put.new.apass) f.links.items ss) (sym c.in-Ok-push-2.ensures.items)

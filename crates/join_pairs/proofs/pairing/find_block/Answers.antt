@@ -10,7 +10,7 @@ use Rattle.row_blocks.proofs.RowNumbers.{numbers_end, numbers_next}
 use Rattle.join_pairs.proofs.pairing.find_block.Goals as goal
 
 pub loop-at-preserved : goal.loop-at-preserved
-loop-at-preserved c =
+loop-at-preserved g c =
     let at = c.loop-at.at in
     let row = 256 * c.args.block + 1 + at in
     let numbers = block_numbers c.args.rows.now c.args.block in
@@ -23,7 +23,7 @@ loop-at-preserved c =
     )
 
 pub returns-in-Err-clause-stopped : goal.returns-in-Err-clause-stopped
-returns-in-Err-clause-stopped c =
+returns-in-Err-clause-stopped g c =
     let at = c.loop-at.at in
     let row = 256 * c.args.block + 1 + at in
     let numbers = block_numbers c.args.rows.now c.args.block in
@@ -38,7 +38,7 @@ returns-in-Err-clause-stopped c =
     (subst (λ (l : List Pair). StopsAdding (length c.loop-at.pairs.items + length l) c.in-Err.why) (sym one) (c.in-Err.ensures.stopped left k all)))
 
 pub returns-clause-added : goal.returns-clause-added
-returns-clause-added c =
+returns-clause-added g c =
     let at = c.loop-at.at in
     let long : min 256 (length c.args.rows.now - (256 * c.args.block + 1)) ≤ at = omega (arith, c.loop-at-test.false, c.min-count.ensures, c.count-last.ensures.rows, c.requires.block) in
     λ left k all. subst (λ (l : List ℕ). IsPermutation (c.args.pairs.now.items ++ found_in left c.args.rows.now k c.args.column l) c.loop-at.pairs.items) (numbers_end c.args.rows.now c.args.block at long) (c.loop-at.invariant.1 left k all)

@@ -14,5 +14,5 @@ invariant-loop g l = record {
   seat : Belongs l.claims l.claim;
   number : number_of l.claim ≡ number_of l.initial.claim;
   few : length l.pairs.items ≤ most_pairs;
-  found : (left : Table) (c : ℕ) → ChainsAll left c l.chains → IsPermutation (found_in left l.rows c l.column (numbers_of_blocks l.rows (draws_of l.claim))) l.pairs.items;
+  found : (left : Table) (c : ℕ) → ChainsAll left c (g.L.Lasts.last_of l.table) l.chains → IsPermutation (found_in left l.rows c l.column (numbers_of_blocks l.rows (draws_of l.claim))) l.pairs.items;
 }

@@ -2,7 +2,7 @@ use Rattle.std.proofs.Common.{◌≡◌, ◌<◌, ◌∙◌, ◌++◌, ◌∷◌
 use Rattle.std.proofs.lemmas.List.{set-get_or}
 use Rattle.std.proofs.lemmas.Option.{slice_get_read}
 use Rattle.dshash_core.specs.Listing.{pairs_of}
-use Rattle.frozen_table.proofs.Taken.{AreListedTo, listed_all, listed_next}
+use Rattle.frozen_table.proofs.Taken.{AreListedTo, list_own, listed_all, listed_next}
 use Rattle.frozen_table.proofs.lookup.Lookup.of.Goals as goal
 
 pub loop-at-preserved : goal.loop-at-preserved
@@ -25,3 +25,9 @@ loop-at-preserved g c =
 pub returns-clause-listed : goal.returns-clause-listed
 returns-clause-listed g c =
     listed_all c.args.partitions.now.items c.loop-at.at c.loop-at.indexes.items c.loop-at.invariant.listed (omega (arith, c.loop-at.auto.at-end, c.loop-at-test.false, c.requires.count))
+
+pub invariant_of-result : goal.invariant_of-result
+invariant_of-result g c =
+    let parts = c.args.partitions.now.items in
+    let lists = c.loop-at.indexes.items in
+    list_own parts lists c.requires.count (listed_all parts c.loop-at.at lists c.loop-at.invariant.listed (omega (arith, c.loop-at.auto.at-end, c.loop-at-test.false, c.requires.count)))
