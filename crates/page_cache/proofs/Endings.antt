@@ -5,9 +5,8 @@ use mathlib.Core.Option.{some}
 use lib.ListN.{get_elem?}
 use Rattle.lock_book.specs.Shown.{number_of}
 use Rattle.lock_book.proofs.Uses.{map_at as element_at, at_map}
-use Rattle.dshash_parts.specs.Ending.{Ended, whole_of}
-use Rattle.dshash_parts.specs.Tables.{AreAll, Belongs, callers_of}
-use Rattle.dshash_parts.specs.Traces.{sight_of}
+use Rattle.chunk_table.specs.Ending.{Ended, whole_of}
+use Rattle.chunk_table.specs.Tables.{AreAll, Belongs, callers_of, sight_of}
 use Rattle.page_cache.specs.Moments.{IsMoment}
 use Rattle.page_cache.specs.Pages.{stepped}
 use Rattle.page_cache.specs.Seats.{AreSeats}
@@ -37,7 +36,7 @@ end_moment c seats all closed ended = record {
       let s = some_at seats n (omega (arith, count)) in (
         sight_of s.0.pass s.0.apass,
         s.0.tickets,
-        subst (λ (z : ℕ). HasPaid c.area z c.share (sight_of s.0.pass s.0.apass) s.0.tickets) (all.numbers n s.0 s.1) (all.each n s.0 s.1).paid,
+        subst (λ (z : ℕ). HasPaid c.area z c.share (sight_of s.0.pass s.0.apass) s.0.tickets) (all.numbers n s.0 s.1) (all.each n s.0 s.1).settled.paid,
         λ i few. ended.mine n i s.0.pass (at_map (λ (s : Seat). s.pass) seats n s.0 s.1),
       );
 }

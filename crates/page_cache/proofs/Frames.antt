@@ -7,18 +7,17 @@ use Rattle.dsa_area.specs.declared.area.Area.{Area}
 use Rattle.dshash_core.specs.Key.{hash_of}
 use Rattle.dshash_core.specs.Cells.{partition_of}
 use Rattle.dshash_core.proofs.Maps.{other_key}
+use Rattle.dshash_chunks.specs.declared.held.ChunkCalls.TheVariants.{Take, With}
 use Rattle.dshash_parts.specs.Promises.{IsMadeWith}
 use Rattle.dshash_parts.specs.Replays.{calls_of_key, made_of}
 use Rattle.dshash_parts.specs.Tables.{AtPartition}
-use Rattle.dshash_parts.specs.Traces.{AreGifts, Asked, Gave, Got, Missed, NoneMade, Sight, Trace, Turn}
+use Rattle.dshash_parts.specs.Traces.{AreGifts, Asked, Gave, Got, Missed, NoneMade, Trace, Turn}
 use Rattle.dshash_parts.specs.declared.histories.PartitionCalls.TheVariants.{Call, Looks, Moves, Lists}
 use Rattle.dshash_parts.specs.declared.histories.PartitionReplies.TheVariants.{Made, LacksItem, HasToGrow, Crowded, HasSize, Moved, Listed}
 use Rattle.page_cache.specs.Owned.{last_put, own_page}
 use Rattle.page_cache.specs.Pages.{stepped}
-use Rattle.page_cache.specs.Tickets.{Answers, Asks, CacheEntry, CacheEvent, CacheHistories}
+use Rattle.page_cache.specs.Tickets.{Answers, Asks, CacheCall, CacheEntry, CacheEvent, CacheHistories, CacheReply, CacheSight}
 use Rattle.page_cache.specs.declared.page.Page.{Page}
-use Rattle.page_cache.specs.declared.page.PageCall.{PageCall}
-use Rattle.page_cache.specs.declared.page.PageCall.TheVariants.{Evict, Get}
 use Rattle.page_cache.proofs.Kept.{calls-append, last_put-append}
 
 -- the turn puts no page under the name
@@ -43,21 +42,21 @@ turn_leaves n seen mine seen' mine' number call reply name turn none =
     (λ other. ap (λ (es : List CacheEntry). last_put None (calls_of_key name es)) (turn.others home other).1)
 
 -- calls of other names put none under this one
-pub other_puts_none : (name key : List ℕ) (call : PageCall) (spare : Bool) (reply : Option Page) (unused freed : Bool) → name ≢ key → PutsNone name (Call key call spare) (Made reply unused freed)
+pub other_puts_none : (name key : List ℕ) (call : CacheCall) (spare : Bool) (reply : CacheReply) (unused freed : Bool) → name ≢ key → PutsNone name (Call key call spare) (Made reply unused freed)
 other_puts_none name key call spare reply unused freed ne page = ap (λ (b : Bool). last_put page (cond b ((call, reply) ∷ []) [])) (other_key name key ne)
 
 -- an eviction and a look-up put none at all
-pub eviction_puts_none : (name key : List ℕ) (spare : Bool) (reply : Option Page) (unused freed : Bool) → PutsNone name (Call key Evict spare) (Made reply unused freed)
+pub eviction_puts_none : (name key : List ℕ) (spare : Bool) (reply : CacheReply) (unused freed : Bool) → PutsNone name (Call key Take spare) (Made reply unused freed)
 eviction_puts_none name key spare reply unused freed page = either _
   where
-    either : (b : Bool) → last_put page (cond b ((Evict, reply) ∷ []) []) ≡ page
+    either : (b : Bool) → last_put page (cond b ((Take, reply) ∷ []) []) ≡ page
     either true = refl
     either false = refl
 
-pub look_puts_none : (name key : List ℕ) (reply : Option Page) → PutsNone name (Call key Get false) (Made reply false false)
-look_puts_none name key reply page = either _
+pub look_puts_none : (name key : List ℕ) (call : Unit {0}) (reply : CacheReply) → PutsNone name (Call key (With call) false) (Made reply false false)
+look_puts_none name key call reply page = either _
   where
-    either : (b : Bool) → last_put page (cond b ((Get, reply) ∷ []) []) ≡ page
+    either : (b : Bool) → last_put page (cond b ((With call, reply) ∷ []) []) ≡ page
     either true = refl
     either false = refl
 
@@ -68,8 +67,8 @@ module _ (name : List ℕ) where
   PutNone (Turn number call reply ∷ es) = PutsNone name call reply × PutNone es
   PutNone (Asked request ∷ es) = PutNone es
 
-  pub events_leave : (a : Area) (n : ℕ) (v w : Sight Page PageCall (Option Page)) (es : List CacheEvent) → Trace stepped a n v w es → PutNone es → own_page w.mine name ≡ own_page v.mine name
-  events_leave a n v w [] trace none = ap (λ (s : Sight Page PageCall (Option Page)). own_page s.mine name) trace
+  pub events_leave : (a : Area) (n : ℕ) (v w : CacheSight) (es : List CacheEvent) → Trace stepped a n v w es → PutNone es → own_page w.mine name ≡ own_page v.mine name
+  events_leave a n v w [] trace none = ap (λ (s : CacheSight). own_page s.mine name) trace
   events_leave a n v w (Turn number call reply ∷ es) trace none =
       events_leave a n trace.0 w es trace.2 none.1
       ∙ turn_leaves n v.seen v.mine trace.0.seen trace.0.mine number call reply name trace.1.0 none.0
@@ -119,7 +118,7 @@ module _ (name : List ℕ) where
   gifts_put (Turn number call reply ∷ es) h = absurd h
 
   -- a call of another name that was made
-  pub made_leaves : (a : Area) (n number item : ℕ) (key : List ℕ) (call : PageCall) (held kept : Bool) (reply : Option Page) (v w : Sight Page PageCall (Option Page)) (es : List CacheEvent) → name ≢ key
+  pub made_leaves : (a : Area) (n number item : ℕ) (key : List ℕ) (call : CacheCall) (held kept : Bool) (reply : CacheReply) (v w : CacheSight) (es : List CacheEvent) → name ≢ key
       → IsMadeWith number item key call held kept reply es → Trace stepped a n v w es → own_page w.mine name ≡ own_page v.mine name
   made_leaves a n number item key call held kept reply v w es ne made trace =
       let tail : List CacheEvent = Turn number (Call key call made.spare) (Made reply made.unused made.freed) ∷ made.after in

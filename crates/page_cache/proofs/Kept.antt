@@ -2,7 +2,7 @@
 use Rattle.std.proofs.Common.{◌≡◌, ◌≢◌, ◌⊎◌, inl, inr, ⊎_elim, ℕ, ◌==◌, Bool, true, false, cond, List, [], ◌∷◌, ◌++◌, append_assoc, Option, Some, None, refl, sym, ap, ◌∙◌, subst}
 use Rattle.std.specs.FinMap as fin
 use Rattle.std.proofs.lemmas.Bool.Decides.{eqb_tells}
-use Rattle.lock_book.specs.History.{calls_by, entry, last_of, IsLegal}
+use Rattle.lock_book.specs.History.{calls_by, last_of, IsLegal}
 use Rattle.dshash_core.specs.Key.{hash_of}
 use Rattle.dshash_core.specs.Cells.{KeyMap, partition_of}
 use Rattle.dshash_core.specs.Outcome.{next_of}
@@ -10,75 +10,84 @@ use Rattle.dshash_core.proofs.Maps.{keys_same_or_not, other_key, same_key}
 use Rattle.dshash_parts.specs.Legal.{AreAllowed, IsTurn, MayTurn, PartitionLegal}
 use Rattle.dshash_parts.specs.Replays.{calls_of_key, made_of}
 use Rattle.dshash_parts.specs.States.{PartitionState, fresh}
-use Rattle.dshash_parts.specs.Tables.{AtPartition}
 use Rattle.dshash_parts.specs.declared.histories.PartitionCalls.TheVariants.{Call, Looks, Moves, Lists}
 use Rattle.dshash_parts.specs.declared.histories.PartitionReplies.TheVariants.{Made, LacksItem, HasToGrow, Crowded, HasSize, Moved, Listed}
 use Rattle.dshash_parts.proofs.Replays.{changed_else, changed_here, one}
+use Rattle.dshash_chunks.specs.declared.held.Held.{Held}
+use Rattle.dshash_chunks.specs.declared.held.ChunkCalls.TheVariants.{Put, Take, With}
 use Rattle.page_cache.specs.Owned.{IsEviction, IsKept, NonePut, WasEvicted, last_put, newer, own_page, put_by, under}
-use Rattle.page_cache.specs.Pages.{after, may, owner_of, stepped}
-use Rattle.page_cache.specs.Tickets.{Answers, Asks, CacheEntry, CacheHistories}
+use Rattle.page_cache.specs.Pages.{after, may, owner_of, shown, stepped}
+use Rattle.page_cache.specs.Tickets.{Answers, Asks, CacheCall, CacheEntry, CacheHistories, CacheReply}
 use Rattle.page_cache.specs.declared.page.Page.{Page}
-use Rattle.page_cache.specs.declared.page.PageCall.{PageCall}
-use Rattle.page_cache.specs.declared.page.PageCall.TheVariants.{Get, Put, Evict}
 
-pub last_put-append : (page : Option Page) (xs ys : List (PageCall × Option Page)) → last_put page (xs ++ ys) ≡ last_put (last_put page xs) ys
+pub last_put-append : (page : Option Page) (xs ys : List (CacheCall × CacheReply)) → last_put page (xs ++ ys) ≡ last_put (last_put page xs) ys
 last_put-append page [] ys = refl
-last_put-append page (x ∷ xs) ys = last_put-append (newer (put_by x.0 x.1) page) xs ys
+last_put-append page (x ∷ xs) ys = last_put-append (newer (put_by x.0) page) xs ys
+
+-- the page that a step leaves
+leaves : (held : Option Held) (call : CacheCall) → shown (stepped held call).0 ≡ after (shown held) call
+leaves held (Put h) = refl
+leaves held Take = refl
+leaves None (With call) = refl
+leaves (Some h) (With call) = refl
 
 module _ (name : List ℕ) where
-  abbrev stood : PartitionState Page → Option Page
-  stood s = fin.get s.cells name
+  abbrev under_it : PartitionState Held → Option Held
+  under_it s = fin.get s.cells name
+
+  abbrev stood : PartitionState Held → Option Page
+  stood s = shown (under_it s)
 
   -- a turn by which no call of the name was made leaves its page
-  abbrev IsQuiet : PartitionState Page → PartitionState Page → Asks → Answers → Type 0
+  abbrev IsQuiet : PartitionState Held → PartitionState Held → Asks → Answers → Type 0
   IsQuiet before left call reply = (made_of name call reply ≡ []) × (stood left ≡ stood before)
 
   -- a call of the name that was made
-  abbrev IsOfName : PartitionState Page → PartitionState Page → Asks → Answers → Type 0
-  IsOfName before left call reply = (c : PageCall) × (spare unused freed : Bool) × (call ≡ Call name c spare) × (reply ≡ Made (stood before) unused freed) × (stood left ≡ after (stood before) c) × (made_of name call reply ≡ (c, stood before) ∷ [])
+  abbrev IsOfName : PartitionState Held → PartitionState Held → Asks → Answers → Type 0
+  IsOfName before left call reply = (c : CacheCall) × (spare unused freed : Bool) × (call ≡ Call name c spare) × (reply ≡ Made (stepped (under_it before) c).1 unused freed) × (stood left ≡ after (stood before) c) × (made_of name call reply ≡ (c, (stepped (under_it before) c).1) ∷ [])
 
   -- each turn is one of the two
-  quiet_or_not : (before left : PartitionState Page) (call : Asks) (reply : Answers) → IsTurn stepped before call reply left → IsQuiet before left call reply ⊎ IsOfName before left call reply
+  quiet_or_not : (before left : PartitionState Held) (call : Asks) (reply : Answers) → IsTurn stepped before call reply left → IsQuiet before left call reply ⊎ IsOfName before left call reply
   quiet_or_not before left (Call k c spare) (Made reply unused freed) h =
-      let next : Option Page = next_of stepped before.cells k c in
-      let now = ap (λ (m : KeyMap Page). fin.get m name) h.1.steps in
+      let next : Option Held = next_of stepped before.cells k c in
+      let now = ap (λ (m : KeyMap Held). shown (fin.get m name)) h.1.steps in
       ⊎_elim
       (λ (e : name ≡ k).
-      let told : reply ≡ stood before = h.1.replied ∙ ap (λ (z : List ℕ). fin.get before.cells z) (sym e) in
+      let told : reply ≡ (stepped (under_it before) c).1 = h.1.replied ∙ ap (λ (z : List ℕ). (stepped (fin.get before.cells z) c).1) (sym e) in
       inr (
         c,
         spare,
         unused,
         freed,
         ap (λ (z : List ℕ). Call z c spare) (sym e),
-        ap (λ (z : Option Page). Made z unused freed) told,
-        now ∙ changed_here stepped before.cells k next name e ∙ ap (λ (z : List ℕ). after (fin.get before.cells z) c) (sym e),
-        ap (λ (b : Bool). cond b ((c, reply) ∷ []) []) (same_key name k e) ∙ ap (λ (z : Option Page). (c, z) ∷ []) told,
+        ap (λ (z : CacheReply). Made z unused freed) told,
+        now ∙ ap shown (changed_here stepped before.cells k next name e) ∙ leaves (fin.get before.cells k) c ∙ ap (λ (z : List ℕ). after (shown (fin.get before.cells z)) c) (sym e),
+        ap (λ (b : Bool). cond b ((c, reply) ∷ []) []) (same_key name k e) ∙ ap (λ (z : CacheReply). (c, z) ∷ []) told,
       ))
-      (λ (ne : name ≢ k). inl (ap (λ (b : Bool). cond b ((c, reply) ∷ []) []) (other_key name k ne), now ∙ changed_else stepped before.cells k next name ne))
+      (λ (ne : name ≢ k). inl (ap (λ (b : Bool). cond b ((c, reply) ∷ []) []) (other_key name k ne), now ∙ ap shown (changed_else stepped before.cells k next name ne)))
       (keys_same_or_not name k)
-  quiet_or_not before left (Call k c spare) LacksItem h = inl (refl, sym (one stepped name before left (Call k c spare) LacksItem h))
-  quiet_or_not before left (Call k c spare) (HasToGrow size back) h = inl (refl, sym (one stepped name before left (Call k c spare) (HasToGrow size back) h))
-  quiet_or_not before left (Call k c spare) (Crowded seed longest back) h = inl (refl, sym (one stepped name before left (Call k c spare) (Crowded seed longest back) h))
+  quiet_or_not before left (Call k c spare) LacksItem h = inl (refl, ap shown (sym (one stepped name before left (Call k c spare) LacksItem h)))
+  quiet_or_not before left (Call k c spare) (HasToGrow size back) h = inl (refl, ap shown (sym (one stepped name before left (Call k c spare) (HasToGrow size back) h)))
+  quiet_or_not before left (Call k c spare) (Crowded seed longest back) h = inl (refl, ap shown (sym (one stepped name before left (Call k c spare) (Crowded seed longest back) h)))
   quiet_or_not before left (Call k c spare) (HasSize size keys) h = absurd h
   quiet_or_not before left (Call k c spare) (Moved words) h = absurd h
   quiet_or_not before left (Call k c spare) (Listed entries) h = absurd h
-  quiet_or_not before left Looks reply h = inl (refl, sym (one stepped name before left Looks reply h))
-  quiet_or_not before left (Moves to) reply h = inl (refl, sym (one stepped name before left (Moves to) reply h))
-  quiet_or_not before left Lists reply h = inl (refl, sym (one stepped name before left Lists reply h))
+  quiet_or_not before left Looks reply h = inl (refl, ap shown (sym (one stepped name before left Looks reply h)))
+  quiet_or_not before left (Moves to) reply h = inl (refl, ap shown (sym (one stepped name before left (Moves to) reply h)))
+  quiet_or_not before left Lists reply h = inl (refl, ap shown (sym (one stepped name before left Lists reply h)))
 
   module _ (n : ℕ) (owner : owner_of name ≡ n) where
     -- others put no page under the name
-    others_put : (by : ℕ) → by ≢ n → (c : PageCall) (reply : Option Page) → may by name c → put_by c reply ≡ None
-    others_put by ne Get reply lets = refl
-    others_put by ne (Put page) reply lets = absurd (ne (sym lets ∙ owner))
-    others_put by ne Evict reply lets = refl
+    others_put : (by : ℕ) → by ≢ n → (c : CacheCall) → may by name c → put_by c ≡ None
+    others_put by ne (Put h) lets = absurd (ne (sym lets ∙ owner))
+    others_put by ne Take lets = refl
+    others_put by ne (With call) lets = refl
 
     others_leave : (by : ℕ) → by ≢ n → (page : Option Page) (call : Asks) (reply : Answers) → MayTurn may by call → last_put page (made_of name call reply) ≡ page
     others_leave by ne page (Call k c spare) (Made reply unused freed) lets = ⊎_elim
         (λ (e : name ≡ k).
         ap (λ (b : Bool). last_put page (cond b ((c, reply) ∷ []) [])) (same_key name k e)
-        ∙ ap (λ (o : Option Page). newer o page) (others_put by ne c reply (subst (λ (z : List ℕ). may by z c) (sym e) lets)))
+        ∙ ap (λ (o : Option Page). newer o page) (others_put by ne c (subst (λ (z : List ℕ). may by z c) (sym e) lets)))
         (λ (no : name ≢ k). ap (λ (b : Bool). last_put page (cond b ((c, reply) ∷ []) [])) (other_key name k no))
         (keys_same_or_not name k)
     others_leave by ne page (Call k c spare) LacksItem lets = refl
@@ -118,7 +127,7 @@ module _ (name : List ℕ) where
     Left true e = IsEviction name e
     Left false e = last_put None (made_of name e.call e.reply) ≡ None
 
-    module _ (e : CacheEntry) (s : PartitionState Page) (page : Option Page) where
+    module _ (e : CacheEntry) (s : PartitionState Held) (page : Option Page) where
       abbrev now : Option Page
       now = last_put page (made_of name e.call e.reply)
 
@@ -129,27 +138,27 @@ module _ (name : List ℕ) where
       quiet_step true q here = inl (q.1 ∙ here ∙ sym (ap (last_put page) q.0))
       quiet_step false q here = inr (q.1 ∙ here, ap (last_put None) q.0)
 
-      module _ (c : PageCall) (spare unused freed : Bool) (call : e.call ≡ Call name c spare) where
-        -- the page of before is given as such, so that its cases can be told
-        made_step : (b : Bool) (was : Option Page) (call_was : PageCall) → c ≡ call_was → stood s ≡ was → e.reply ≡ Made was unused freed → stood e.after ≡ after was call_was → made_of name e.call e.reply ≡ (call_was, was) ∷ [] → Start b page was → Step b
-        made_step true was Get is there reply left made here = inl (left ∙ here ∙ sym (ap (last_put page) made))
-        made_step false was Get is there reply left made here = inr (left ∙ here, ap (last_put None) made)
-        made_step b was (Put new) is there reply left made here = inl (left ∙ sym (ap (last_put page) made))
-        made_step true (Some old) Evict is there reply left made here = inr (left, record { page = old; spare = spare; unused = unused; freed = freed; call = call ∙ ap (λ (z : PageCall). Call name z spare) is; reply = reply })
-        made_step true None Evict is there reply left made here = inl (left ∙ here ∙ sym (ap (last_put page) made))
-        made_step false was Evict is there reply left made here = inr (left, ap (last_put None) made)
+      module _ (c : CacheCall) (spare unused freed : Bool) (call : e.call ≡ Call name c spare) where
+        -- what was under the name before is given as such, so that its cases can be told
+        made_step : (b : Bool) (was : Option Held) (it : CacheCall) → c ≡ it → e.reply ≡ Made (stepped was it).1 unused freed → stood e.after ≡ after (shown was) it → made_of name e.call e.reply ≡ (it, (stepped was it).1) ∷ [] → Start b page (shown was) → Step b
+        made_step true was (With work) is reply left made here = inl (left ∙ here ∙ sym (ap (last_put page) made))
+        made_step false was (With work) is reply left made here = inr (left ∙ here, ap (last_put None) made)
+        made_step b was (Put new) is reply left made here = inl (left ∙ sym (ap (last_put page) made))
+        made_step true (Some old) Take is reply left made here = inr (left, record { held = old; spare = spare; unused = unused; freed = freed; call = call ∙ ap (λ (z : CacheCall). Call name z spare) is; reply = reply })
+        made_step true None Take is reply left made here = inl (left ∙ here ∙ sym (ap (last_put page) made))
+        made_step false was Take is reply left made here = inr (left, ap (last_put None) made)
 
       step : (b : Bool) → IsTurn stepped s e.call e.reply e.after → Start b page (stood s) → Step b
       step b h here = ⊎_elim
           (λ (q : IsQuiet s e.after e.call e.reply). quiet_step b q here)
-          (λ (x : IsOfName s e.after e.call e.reply). made_step x.0 x.1 x.2 x.3 x.4 b (stood s) x.0 refl refl x.5 x.6 x.7 here)
+          (λ (x : IsOfName s e.after e.call e.reply). made_step x.0 x.1 x.2 x.3 x.4 b (under_it s) x.0 refl x.5 x.6 x.7 here)
           (quiet_or_not s e.after e.call e.reply h)
 
     abbrev Ends : Bool → Option Page → List CacheEntry → Option Page → Type 0
     Ends b page es there = (there ≡ last_put page (calls_of_key name (calls_by n es))) ⊎ ((there ≡ None) × Gone b es)
 
     -- a history
-    keeps : (b : Bool) (number : ℕ) (s : PartitionState Page) (page : Option Page) (es : List CacheEntry) → IsLegal (λ _. PartitionLegal stepped number) s es → AreAllowed may es → Start b page (stood s) → Ends b page es (stood (last_of s es))
+    keeps : (b : Bool) (number : ℕ) (s : PartitionState Held) (page : Option Page) (es : List CacheEntry) → IsLegal (λ _. PartitionLegal stepped number) s es → AreAllowed may es → Start b page (stood s) → Ends b page es (stood (last_of s es))
     keeps true number s page [] h a here = inl here
     keeps false number s page [] h a here = inr (here, inr tt)
     keeps true number s page (e ∷ es) h a here =
@@ -183,24 +192,11 @@ pub kept : (n : ℕ) (name : List ℕ) → owner_of name ≡ n → (seen mine : 
 kept n name owner seen mine lawful allowed own =
     let home : ℕ = partition_of (hash_of name) in
     subst (λ (es : List CacheEntry). (under seen name ≡ last_put None (calls_of_key name es)) ⊎ ((under seen name ≡ None) × WasEvicted name (seen home))) own
-    (keeps name n owner true home fresh None (seen home) lawful allowed (fin.get-empty {X = Page} _ name))
+    (keeps name n owner true home fresh None (seen home) lawful allowed (ap shown (fin.get-empty {X = Held} _ name)))
 
 pub calls-append : (name : List ℕ) (es fs : List CacheEntry) → calls_of_key name (es ++ fs) ≡ calls_of_key name es ++ calls_of_key name fs
 calls-append name [] fs = refl
-calls-append name (e ∷ es) fs = ap (λ (made : List (PageCall × Option Page)). made_of name e.call e.reply ++ made) (calls-append name es fs) ∙ sym (append_assoc (made_of name e.call e.reply) (calls_of_key name es) (calls_of_key name fs))
-
--- a look-up puts none
-pub looked_up : (n : ℕ) (seen mine seen' mine' : CacheHistories) (name : List ℕ) (reply : Option Page) → AtPartition stepped n seen mine seen' mine' (partition_of (hash_of name)) (Call name Get false) (Made reply false false)
-    → own_page mine' name ≡ own_page mine name
-looked_up n seen mine seen' mine' name reply turn =
-    let home : ℕ = partition_of (hash_of name) in
-    let x = turn.here in
-    let e = entry n (Call name Get false) (Made reply false false) x.2.after in
-    let grows : mine' home ≡ mine home ++ e ∷ [] = x.3.1 ∙ x.2.own in
-    ap (λ (es : List CacheEntry). last_put None (calls_of_key name es)) grows
-    ∙ (ap (last_put None) (calls-append name (mine home) (e ∷ []))
-    ∙ (last_put-append None (calls_of_key name (mine home)) (cond (Rattle.std.specs.Ordering.eq_by_cmp (Rattle.std.specs.Cmp.Lexicographic.slice_cmp Rattle.std.specs.Ordering.nat_cmp) name name) ((Get, reply) ∷ []) [] ++ [])
-    ∙ ap (λ (b : Bool). last_put (own_page mine name) (cond b ((Get, reply) ∷ []) [] ++ [])) (same_key name name refl)))
+calls-append name (e ∷ es) fs = ap (λ (made : List (CacheCall × CacheReply)). made_of name e.call e.reply ++ made) (calls-append name es fs) ∙ sym (append_assoc (made_of name e.call e.reply) (calls_of_key name es) (calls_of_key name fs))
 
 -- the same of a page and of calls that are no others
 pub kept_as : (seen mine mine' : CacheHistories) (name : List ℕ) (page page' : Option Page) → page' ≡ page → own_page mine name ≡ own_page mine' name → IsKept seen mine name page → IsKept seen mine' name page'

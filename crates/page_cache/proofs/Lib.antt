@@ -1,7 +1,10 @@
 pub mod PartitionSums
 pub mod Paid
+pub mod Causes
 pub mod Results
 pub mod Seats
+pub mod Backs
+pub mod Words
 pub mod Steps
 pub mod Turns
 pub mod Kept

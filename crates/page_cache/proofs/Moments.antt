@@ -1,18 +1,17 @@
 -- At no moment there are more entries than the callers' shares.
-use Rattle.std.proofs.Common.{◌≡◌, ℕ, zero, suc, ◌+◌, ◌*◌, ◌≤◌, List, [], ◌∷◌, ◌++◌, Option, refl, ap, subst, suc-mul, arith}
+use Rattle.std.proofs.Common.{◌≡◌, ℕ, zero, suc, ◌+◌, ◌*◌, ◌≤◌, List, [], ◌∷◌, ◌++◌, refl, ap, subst, suc-mul, arith}
 use Rattle.std.specs.Cmp.Lexicographic.{slice_cmp}
 use Rattle.std.specs.FinMap as fin
 use Rattle.lock_book.specs.History.{calls_by}
 use Rattle.lock_book.proofs.Uses.{weigh, weigh_below, weigh_parts}
 use Rattle.dsa_area.specs.declared.area.Area.{Area}
+use Rattle.dshash_chunks.specs.declared.held.Held.{Held}
 use Rattle.dshash_parts.specs.States.{fresh}
 use Rattle.dshash_parts.specs.Tables.{map_at}
-use Rattle.dshash_parts.specs.Traces.{Sight, Trace}
+use Rattle.dshash_parts.specs.Traces.{Trace}
 use Rattle.page_cache.specs.Moments.{AlwaysPaid, IsMoment, NeverMore, entries_of}
 use Rattle.page_cache.specs.Pages.{stepped}
-use Rattle.page_cache.specs.Tickets.{CacheEntry, CacheEvent, CacheHistories, HasPaid, counted, makes, nothing, of_turn, sum_below, takes}
-use Rattle.page_cache.specs.declared.page.Page.{Page}
-use Rattle.page_cache.specs.declared.page.PageCall.{PageCall}
+use Rattle.page_cache.specs.Tickets.{CacheEntry, CacheEvent, CacheHistories, CacheSight, HasPaid, counted, makes, nothing, of_turn, sum_below, takes}
 use Rattle.page_cache.proofs.Paid.{paid_counts, pays_front}
 use Rattle.page_cache.proofs.PartitionSums.{sum_both, sum_same}
 use Rattle.page_cache.proofs.Turns.{history_counts}
@@ -48,7 +47,7 @@ module _ (a : Area) (callers share : ℕ) (h : CacheHistories) (x : IsMoment a c
   all_entries : entries_of h + taken_below callers ≡ made_below callers
   all_entries =
       let both = sum_both 128 (λ i. fin.len (map_at h i)) (λ i. weigh taken (h i)) in
-      let none = fin.len-empty (slice_cmp Rattle.std.specs.Ordering.nat_cmp) Page in
+      let none = fin.len-empty (slice_cmp Rattle.std.specs.Ordering.nat_cmp) Held in
       let each = sum_same 128 (λ i. weigh made (h i)) (λ i. fin.len (map_at h i) + weigh taken (h i)) (λ i lt. let c = history_counts i fresh (h i) (x.lawful i lt) in omega (arith, c, none)) in
       let all_made = sum_same 128 (λ i. weigh_below made callers (h i)) (λ i. weigh made (h i)) (λ i lt. weigh_parts made callers (h i) (λ n high. x.no_others i n lt high)) in
       let all_taken = sum_same 128 (λ i. weigh_below taken callers (h i)) (λ i. weigh taken (h i)) (λ i lt. weigh_parts taken callers (h i) (λ n high. x.no_others i n lt high)) in
@@ -60,7 +59,7 @@ module _ (a : Area) (callers share : ℕ) (h : CacheHistories) (x : IsMoment a c
 pub never_more : NeverMore
 never_more a callers share h x = few_entries a callers share h x
 
-trace_front : (a : Area) (n : ℕ) (v w : Sight Page PageCall (Option Page)) (es fs : List CacheEvent) → Trace stepped a n v w (es ++ fs) → (u : Sight Page PageCall (Option Page)) × Trace stepped a n v u es
+trace_front : (a : Area) (n : ℕ) (v w : CacheSight) (es fs : List CacheEvent) → Trace stepped a n v w (es ++ fs) → (u : CacheSight) × Trace stepped a n v u es
 trace_front a n v w [] fs x = (v, refl)
 trace_front a n v w (e ∷ es) fs x = let r = trace_front a n x.0 w es fs x.2 in (r.0, (x.0, x.1, r.1))
 

@@ -1,5 +1,5 @@
 -- Tickets that are paid for the entries that events make, and what a caller's own calls count.
-use Rattle.std.proofs.Common.{◌≡◌, ◌≢◌, ◌⊎◌, inl, inr, ⊎_elim, ℕ, ◌+◌, ◌<◌, Bool, List, [], ◌∷◌, ◌++◌, Option, refl, sym, ap, ◌∙◌, subst, arith}
+use Rattle.std.proofs.Common.{◌≡◌, ◌≢◌, ◌⊎◌, inl, inr, ⊎_elim, ℕ, ◌+◌, ◌<◌, Bool, List, [], ◌∷◌, ◌++◌, refl, sym, ap, ◌∙◌, subst, arith}
 use mathlib.Core.Logic.{dite}
 use native.Mathlib.Decide.{ℕ_discrete}
 use Rattle.lock_book.specs.History.{entry}
@@ -11,15 +11,13 @@ use Rattle.dshash_core.specs.Cells.{partition_of}
 use Rattle.dshash_parts.specs.Legal.{IsOurs}
 use Rattle.dshash_parts.specs.Promises.{IsMadeWith}
 use Rattle.dshash_parts.specs.Tables.{AtPartition}
-use Rattle.dshash_parts.specs.Traces.{AreGifts, Asked, Gave, Got, Missed, NoneMade, Sight, Trace, Turn}
+use Rattle.dshash_parts.specs.Traces.{AreGifts, Asked, Gave, Got, Missed, NoneMade, Trace, Turn}
 use Rattle.dshash_parts.specs.declared.histories.PartitionCalls.TheVariants.{Call, Looks, Moves, Lists}
 use Rattle.dshash_parts.specs.declared.histories.PartitionReplies.TheVariants.{Made, LacksItem, HasToGrow, Crowded, HasSize, Moved, Listed}
 use Rattle.dshash_parts.proofs.Sweeps.{trace_append}
 use Rattle.dshash_parts.proofs.Uses.{partition_low}
 use Rattle.page_cache.specs.Pages.{stepped}
-use Rattle.page_cache.specs.Tickets.{Answers, Asks, CacheEntry, CacheEvent, CacheHistories, HasPaid, Pays, counted, makes, nothing, of_event, of_turn, takes}
-use Rattle.page_cache.specs.declared.page.Page.{Page}
-use Rattle.page_cache.specs.declared.page.PageCall.{PageCall}
+use Rattle.page_cache.specs.Tickets.{Answers, Asks, CacheCall, CacheEntry, CacheEvent, CacheHistories, CacheReply, CacheSight, HasPaid, Pays, counted, makes, nothing, of_event, of_turn, takes}
 use Rattle.page_cache.proofs.PartitionSums.{sum_more, sum_same, sum_zero}
 
 -- ---- tickets
@@ -33,7 +31,7 @@ pays_front t w [] fs x = (t, refl)
 pays_front t w (e ∷ es) fs x = let r = pays_front x.0 w es fs x.2 in (r.0, (x.0, x.1, r.1))
 
 -- what the events make and take
-abbrev pub total : (PageCall → Option Page → ℕ) → List CacheEvent → ℕ
+abbrev pub total : (CacheCall → CacheReply → ℕ) → List CacheEvent → ℕ
 total count [] = 0
 total count (e ∷ es) = of_event count e + total count es
 
@@ -42,8 +40,8 @@ pays_total t u [] x = omega (arith, x)
 pays_total t u (e ∷ es) x = let r = pays_total x.0 u es x.2 in let first = x.1 in omega (arith, r, first)
 
 -- a turn by which no call was made has none
-idle : (count : PageCall → Option Page → ℕ) (call : Asks) (reply : Answers) → ((before : Option Page) (unused freed : Bool) → reply ≡ Made before unused freed → ⊥) → of_turn count call reply ≡ 0
-idle count (Call name call spare) (Made before unused freed) h = absurd (h before unused freed refl)
+idle : (count : CacheCall → CacheReply → ℕ) (call : Asks) (reply : Answers) → ((r : CacheReply) (unused freed : Bool) → reply ≡ Made r unused freed → ⊥) → of_turn count call reply ≡ 0
+idle count (Call name call spare) (Made r unused freed) h = absurd (h r unused freed refl)
 idle count (Call name call spare) LacksItem h = refl
 idle count (Call name call spare) (HasToGrow size back) h = refl
 idle count (Call name call spare) (Crowded seed longest back) h = refl
@@ -55,7 +53,7 @@ idle count (Moves to) reply h = refl
 idle count Lists reply h = refl
 
 -- and costs none
-idles : (t u number : ℕ) (call : Asks) (reply : Answers) (es : List CacheEvent) → ((before : Option Page) (unused freed : Bool) → reply ≡ Made before unused freed → ⊥) → Pays t es u → Pays t (Turn number call reply ∷ es) u
+idles : (t u number : ℕ) (call : Asks) (reply : Answers) (es : List CacheEvent) → ((r : CacheReply) (unused freed : Bool) → reply ≡ Made r unused freed → ⊥) → Pays t es u → Pays t (Turn number call reply ∷ es) u
 idles t u number call reply es h x = (t, ap (λ (z : ℕ). t + z) (idle makes call reply h ∙ sym (idle takes call reply h)), x)
 
 pub none_pays : (t : ℕ) (es : List CacheEvent) → NoneMade es → Pays t es t
@@ -77,14 +75,14 @@ gifts_pay t (Asked (Missed bytes wanted largest) ∷ es) h = absurd h
 gifts_pay t (Turn number call reply ∷ es) h = absurd h
 
 -- the events of a call that was made pay for that call
-pub call_pays : {held kept : Bool} (number item : ℕ) (name : List ℕ) (call : PageCall) (reply : Option Page) (es : List CacheEvent) → IsMadeWith number item name call held kept reply es → (t u : ℕ) → u + makes call reply ≡ t + takes call reply → Pays t es u
+pub call_pays : {held kept : Bool} (number item : ℕ) (name : List ℕ) (call : CacheCall) (reply : CacheReply) (es : List CacheEvent) → IsMadeWith number item name call held kept reply es → (t u : ℕ) → u + makes call reply ≡ t + takes call reply → Pays t es u
 call_pays number item name call reply es m t u paid =
     let rest : List CacheEvent = Turn number (Call name call m.spare) (Made reply m.unused m.freed) ∷ m.after in
     subst (λ (z : List CacheEvent). Pays t z u) (sym m.is) (pays_append t t u m.before rest (none_pays t m.before m.none_before) (u, paid, gifts_pay u m.after m.gifts_after))
 
 -- ---- what own calls count
 
-module _ (count : PageCall → Option Page → ℕ) where
+module _ (count : CacheCall → CacheReply → ℕ) where
   abbrev weight : CacheEntry → ℕ
   weight e = of_turn count e.call e.reply
 
@@ -120,8 +118,8 @@ module _ (count : PageCall → Option Page → ℕ) where
         omega (arith, same, zero))
         (placed call refl)
 
-  pub trace_count : (a : Area) (n : ℕ) (v w : Sight Page PageCall (Option Page)) (es : List CacheEvent) → Trace stepped a n v w es → counted count w.mine ≡ counted count v.mine + total count es
-  trace_count a n v w [] x = let e = ap (λ (s : Sight Page PageCall (Option Page)). counted count s.mine) x in omega (arith, e)
+  pub trace_count : (a : Area) (n : ℕ) (v w : CacheSight) (es : List CacheEvent) → Trace stepped a n v w es → counted count w.mine ≡ counted count v.mine + total count es
+  trace_count a n v w [] x = let e = ap (λ (s : CacheSight). counted count s.mine) x in omega (arith, e)
   trace_count a n v w (Turn number call reply ∷ es) x =
       let first = turn_count n v.seen v.mine x.0.seen x.0.mine number call reply x.1.0 in
       let rest = trace_count a n x.0 w es x.2 in
@@ -138,7 +136,7 @@ module _ (count : PageCall → Option Page → ℕ) where
 
 module _ (a : Area) (n share : ℕ) where
   -- it goes on
-  pub paid_on : (v w : Sight Page PageCall (Option Page)) (t u : ℕ) (es : List CacheEvent) → HasPaid a n share v t → Trace stepped a n v w es → Pays t es u → HasPaid a n share w u
+  pub paid_on : (v w : CacheSight) (t u : ℕ) (es : List CacheEvent) → HasPaid a n share v t → Trace stepped a n v w es → Pays t es u → HasPaid a n share w u
   paid_on v w t u es x trace pays = record {
     start = x.start;
     life = x.life ++ es;
@@ -147,7 +145,7 @@ module _ (a : Area) (n share : ℕ) where
   }
 
   -- the tickets, and what was made and taken in it
-  pub paid_counts : (v : Sight Page PageCall (Option Page)) (t : ℕ) → HasPaid a n share v t → t + counted makes v.mine ≡ share + counted takes v.mine
+  pub paid_counts : (v : CacheSight) (t : ℕ) → HasPaid a n share v t → t + counted makes v.mine ≡ share + counted takes v.mine
   paid_counts v t x =
       let made = trace_count makes a n (nothing x.start) v x.life x.trace in
       let taken = trace_count takes a n (nothing x.start) v x.life x.trace in

@@ -3,7 +3,7 @@ use Rattle.std.proofs.Common.{◌≡◌, inl, inr, ℕ, List, Some, None, sym, �
 use Rattle.lock_book.specs.Shown.{mine_of, number_of, seen_of}
 use Rattle.dshash_core.specs.Key.{hash_of}
 use Rattle.dshash_core.specs.Cells.{partition_of}
-use Rattle.dshash_parts.specs.Traces.{sight_of}
+use Rattle.chunk_table.specs.Tables.{sight_of}
 use Rattle.dshash_parts.proofs.Owners.{allowed, lawful}
 use Rattle.dshash_parts.proofs.Uses.{partition_low}
 use Rattle.page_cache.specs.Causes.{Evicts}
@@ -31,6 +31,6 @@ stands_kept seen mine name page (inr x) stands = let no : Some page ≡ None = s
 -- a caller that had no ticket has taken out as many entries since as it made, or more
 pub evicts : (c : Cache) (s t : Seat) → IsSeat c s → IsSeat c t → s.tickets ≡ 0 → Evicts (mine_of s.pass) (mine_of t.pass)
 evicts c s t x y none =
-    let was = paid_counts c.area (number_of s.pass) c.share (sight_of s.pass s.apass) s.tickets x.paid in
-    let now = paid_counts c.area (number_of t.pass) c.share (sight_of t.pass t.apass) t.tickets y.paid in
+    let was = paid_counts c.area (number_of s.pass) c.share (sight_of s.pass s.apass) s.tickets x.settled.paid in
+    let now = paid_counts c.area (number_of t.pass) c.share (sight_of t.pass t.apass) t.tickets y.settled.paid in
     omega (arith, was, now, none)

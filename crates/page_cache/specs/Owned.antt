@@ -3,24 +3,26 @@ use Rattle.std.specs.Prelude.{◌≡◌, ◌⊎◌, ℕ, Bool, List, [], ◌∷�
 use Rattle.std.specs.FinMap as fin
 use Rattle.dshash_core.specs.Key.{hash_of}
 use Rattle.dshash_core.specs.Cells.{partition_of}
+use Rattle.dshash_chunks.specs.declared.held.Held.{Held}
+use Rattle.dshash_chunks.specs.declared.held.ChunkCalls.TheVariants.{Put, Take, With}
+use Rattle.dshash_chunks.specs.declared.held.ChunkReplies.TheVariants.{Was}
 use Rattle.dshash_parts.specs.Tables.{map_at}
 use Rattle.dshash_parts.specs.Replays.{calls_of_key, made_of}
 use Rattle.dshash_parts.specs.declared.histories.PartitionCalls.TheVariants.{Call}
 use Rattle.dshash_parts.specs.declared.histories.PartitionReplies.TheVariants.{Made}
-use Rattle.page_cache.specs.Tickets.{CacheEntry, CacheHistories}
+use Rattle.page_cache.specs.Pages.{read, shown}
+use Rattle.page_cache.specs.Tickets.{CacheCall, CacheEntry, CacheHistories, CacheReply}
 use Rattle.page_cache.specs.declared.page.Page.{Page}
-use Rattle.page_cache.specs.declared.page.PageCall.{PageCall}
-use Rattle.page_cache.specs.declared.page.PageCall.TheVariants.{Get, Put, Evict}
 
--- what is under a name after all that was seen
+-- the page under a name after all that was seen
 abbrev pub under : CacheHistories → List ℕ → Option Page
-under seen name = fin.get (map_at seen (partition_of (hash_of name))) name
+under seen name = shown (fin.get (map_at seen (partition_of (hash_of name))) name)
 
--- the page that a call with its reply puts, if any
-abbrev pub put_by : PageCall → Option Page → Option Page
-put_by (Put page) before = Some page
-put_by Get before = None
-put_by Evict before = None
+-- the page that a call puts, if any
+abbrev pub put_by : CacheCall → Option Page
+put_by (Put h) = Some (read h.words)
+put_by Take = None
+put_by (With call) = None
 
 -- the first if there is one, and else the second
 abbrev pub newer : Option Page → Option Page → Option Page
@@ -28,9 +30,9 @@ newer (Some page) old = Some page
 newer None old = old
 
 -- the last page that these calls put, or the one of before
-abbrev pub last_put : Option Page → List (PageCall × Option Page) → Option Page
+abbrev pub last_put : Option Page → List (CacheCall × CacheReply) → Option Page
 last_put page [] = page
-last_put page (made ∷ rest) = last_put (newer (put_by made.0 made.1) page) rest
+last_put page (made ∷ rest) = last_put (newer (put_by made.0) page) rest
 
 -- the last page that a caller's own calls put under a name
 abbrev pub own_page : CacheHistories → List ℕ → Option Page
@@ -38,12 +40,12 @@ own_page mine name = last_put None (calls_of_key name (mine (partition_of (hash_
 
 -- the entry is the eviction of the name's page, by any caller
 pub record IsEviction (name : List ℕ) (e : CacheEntry) : Type 0 where
-  pub page : Page
+  pub held : Held
   pub spare : Bool
   pub unused : Bool
   pub freed : Bool
-  pub call : e.call ≡ Call name Evict spare
-  pub reply : e.reply ≡ Made (Some page) unused freed
+  pub call : e.call ≡ Call name Take spare
+  pub reply : e.reply ≡ Made (Was (Some held)) unused freed
 
 -- none of these entries puts a page under the name
 abbrev pub NonePut : List ℕ → List CacheEntry → Type 0

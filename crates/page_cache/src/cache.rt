@@ -1,34 +1,35 @@
-//! The cache that all threads share, and the seat that each of them owns: how they are made, and what is always true.
+//! The cache that all threads share, and the seat that each of them owns.
 //!
 //! There is a ticket for each entry that the cache may have. They are dealt to the seats in equal shares, and a caller
 //! that makes an entry pays one.
 
-ghost use Rattle.std.specs.Prelude.{◌≡◌, ℕ, ◌≤◌, ◌<◌, [], length, IfOk, IfSome};
+ghost use Rattle.std.specs.Prelude.{◌≡◌, ℕ, ◌≤◌, [], length, IfOk};
 ghost use mathlib.Core.Option.{some};
 ghost use lib.ListN.{get_elem?};
-ghost use Rattle.lock_book.specs.Shown.{mine_of, number_of, seen_of};
+ghost use Rattle.lock_book.specs.Shown.{mine_of, seen_of};
 ghost use Rattle.dsa_area.specs.Shown.{AreAll as AreAllOfArea, Belongs as AreaBelongs, IsArea, callers_of as area_callers};
-ghost use Rattle.dshash_parts.specs.Tables.{AreAll, IsTable, callers_of, key_words_of};
-ghost use Rattle.page_cache.specs.Moments.{AlwaysPaid, NeverMore};
+ghost use Rattle.dshash_parts.specs.Opening.{HaveWords};
+ghost use Rattle.chunk_table.specs.Tables.{AreAll, callers_of};
 ghost use Rattle.page_cache.specs.Seats.{AreSeats, IsCache};
 ghost use Rattle.page_cache.specs.declared.cache.Seat.{Seat};
 
-use crate::page::Page;
+use crate::page::Pages;
+use chunk_table::{ChunkPass, ChunkTable};
 use dsa_area::{Area, AreaPass, area_words};
-use dshash_parts::{DsPass, Dshash};
+use dshash_core::PARTITIONS;
+use dshash_parts::cut_slices;
 use region_words::{Chunk, Region};
 use std::alloc::{AllocError, Global};
-use std::sync::Wait;
 
 /// The words of a name: its owner's number, and a number of the owner's choice.
 pub const NAME_WORDS: u32 = 2;
 
-/// What all threads share, by reference.
+/// What all threads share, by reference. The pages lie in the area, as do the table's items.
 #[derive(Drop)]
 pub struct Cache {
     pub region: Region,
     pub area: Area,
-    pub table: Dshash<Page>,
+    pub table: ChunkTable<Pages>,
     /// The tickets that each seat began with.
     pub share: u64,
 }
@@ -36,7 +37,7 @@ pub struct Cache {
 /// What a thread owns, and by which it calls the cache. It may go to another thread.
 #[derive(Drop)]
 pub struct Seat {
-    pub pass: DsPass<Page>,
+    pub pass: ChunkPass<Pages>,
     pub apass: AreaPass,
     /// The entries that the seat may make before it has to evict one.
     pub tickets: u64,
@@ -46,31 +47,36 @@ pub struct Seat {
     pub spare: Option<Chunk>,
 }
 
-/// A region with an area of this many pages after its first word, and a pass for each caller.
+/// A region with a word for each partition of a table after its first word, and then an area of this many pages, with a
+/// pass for each caller.
 #[tactic(auto, using(word_map::proofs::Maps::answers, std::proofs::lemmas::Bool::Decides::nat_tests))]
 fn area_for(
     alloc: Global,
     pages: u32,
     callers: u32,
-) -> Result<(Region, Area, Vec<AreaPass>), AllocError>
+) -> Result<(Region, Vec<Chunk>, Area, Vec<AreaPass>), AllocError>
     requires few { pages ≤ 65536 }
     requires callers { 1 ≤ callers }
-    ensures area { IfOk result (λ a. IsArea a.0 a.1) }
-    ensures callers { IfOk result (λ a. area_callers a.1 ≡ callers) }
-    ensures passes { IfOk result (λ a. AreAllOfArea a.1 a.2.items) }
+    ensures count { IfOk result (λ a. length a.1.items ≡ 128) }
+    ensures slices { IfOk result (λ a. HaveWords a.0 a.1.items) }
+    ensures area { IfOk result (λ a. IsArea a.0 a.2) }
+    ensures callers { IfOk result (λ a. area_callers a.2 ≡ callers) }
+    ensures passes { IfOk result (λ a. AreAllOfArea a.2 a.3.items) }
 {
+    let front = u64::from(PARTITIONS) + 1;
     let words = area_words(pages);
-    let (region, mut part) = Region::new(alloc, words as usize + 1)?;
-    let chunk = part.split_chunk(&region, 1, words);
+    let (region, mut part) = Region::new(alloc, (front + words) as usize)?;
+    let slices = cut_slices(alloc, &region, &mut part, 1)?;
+    let chunk = part.split_chunk(&region, front, words);
     let (area, passes) = Area::new(alloc, &region, chunk, pages, callers)?;
-    Ok((region, area, passes))
+    Ok((region, slices, area, passes))
 }
 
 /// A seat for each pass of the cache's table, in order.
 fn seats_for(
     alloc: Global,
     cache: &Cache,
-    passes: Vec<DsPass<Page>>,
+    passes: Vec<ChunkPass<Pages>>,
     mut apasses: Vec<AreaPass>,
 ) -> Result<Vec<Seat>, AllocError>
     requires all { AreAll cache.now.table passes.items }
@@ -97,55 +103,29 @@ fn seats_for(
 }
 
 /// A new cache, with no entry, of at most `share` entries for each of its callers, in an area of this many pages of 4
-/// KiB, and a seat for each caller, in order of their numbers from 0. None if there is no memory, or the area is too
-/// small for the partitions of a table.
-pub fn open<R: Wait>(
-    rt: &R,
+/// KiB, and a seat for each caller, in order of their numbers from 0. An entry takes two pages of the area.
+pub fn open(
     alloc: Global,
     pages: u32,
     callers: u32,
     share: u64,
-) -> Option<(Cache, Vec<Seat>)>
+) -> Result<(Cache, Vec<Seat>), AllocError>
     requires few { pages ≤ 65536 }
     requires callers { 1 ≤ callers }
-    ensures cache { IfSome result (λ o. IsCache o.0) }
-    ensures share { IfSome result (λ o. o.0.share ≡ share) }
-    ensures callers { IfSome result (λ o. callers_of o.0.table ≡ callers) }
-    ensures seats { IfSome result (λ o. AreSeats o.0 o.1.items) }
-    ensures fresh { IfSome result (λ o. (k : ℕ) (s : Seat) → get_elem? o.1.items k ≡ some s → (i : ℕ) → (seen_of s.pass i ≡ []) × (mine_of s.pass i ≡ [])) }
+    ensures cache { IfOk result (λ o. IsCache o.0) }
+    ensures share { IfOk result (λ o. o.0.share ≡ share) }
+    ensures callers { IfOk result (λ o. callers_of o.0.table ≡ callers) }
+    ensures seats { IfOk result (λ o. AreSeats o.0 o.1.items) }
+    ensures fresh { IfOk result (λ o. (k : ℕ) (s : Seat) → get_elem? o.1.items k ≡ some s → (i : ℕ) → (seen_of s.pass i ≡ []) × (mine_of s.pass i ≡ [])) }
 {
-    let Ok((region, area, mut apasses)) = area_for(alloc, pages, callers) else {
-        return None;
-    };
-    let Some(mut apass) = apasses.pop() else {
-        unreachable!()
-    };
-    let Ok((table, passes)) = Dshash::new(
-        rt, alloc, &region, &area, &mut apass, NAME_WORDS, callers,
-    ) else {
-        return None;
-    };
-    let Ok(()) = apasses.push(apass) else {
-        return None;
-    };
+    let (region, slices, area, apasses) = area_for(alloc, pages, callers)?;
+    let (table, passes) = ChunkTable::on_slices(alloc, &region, slices, 0, NAME_WORDS, callers)?;
     let cache = Cache {
         region,
         area,
         table,
         share,
     };
-    let Ok(seats) = seats_for(alloc, &cache, passes, apasses) else {
-        return None;
-    };
-    Some((cache, seats))
+    let seats = seats_for(alloc, &cache, passes, apasses)?;
+    Ok((cache, seats))
 }
-
-/// The law: whatever the callers do, and in any order, at no moment are there more entries than their shares.
-pub fn never_more()
-    ensures { NeverMore }
-{}
-
-/// A caller pays for an entry before it makes it, so what a seat says of its life is true at each event of it.
-pub fn always_paid()
-    ensures { AlwaysPaid }
-{}

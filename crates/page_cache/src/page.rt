@@ -1,78 +1,70 @@
-//! A page as what is under a name of the cache.
+//! A page, and the chunk of the area in which it lies while it is in the cache.
 
-ghost use Rattle.std.specs.Prelude.{◌≡◌, length};
+ghost use Rattle.std.specs.Prelude.{◌≡◌, ◌≤◌, slice_index_or};
+ghost use Rattle.dshash_chunks.specs.Held.{contents};
+ghost use Rattle.page_cache.specs.Pages.{may, read, worked};
 
-use dshash_core::CellObject;
+use dshash_chunks::ChunkObject;
+use region_words::{Chunk, Region};
 
 /// The words of a page.
-pub const PAGE_WORDS: usize = 32;
+pub const PAGE_WORDS: usize = 1024;
 
-/// A page of 32 words: `pack_key` of `dshash_core` makes them of up to 248 bytes, and `unpack_key` reads these again.
-#[derive(Clone, Copy, PartialEq, Eq)]
+/// The bytes of a page.
+pub const PAGE_BYTES: u64 = 8 * PAGE_WORDS as u64;
+
+/// A page of 8,192 bytes.
+#[derive(Drop)]
 pub struct Page {
     pub words: [u64; PAGE_WORDS],
 }
 
-/// What is asked of the page under a name. The reply is the page that was there.
-#[derive(Clone, Copy)]
-pub enum PageCall {
-    /// Anybody may ask for the page.
-    Get,
-    /// This page, whatever is there. The name's owner may ask so.
-    Put(Page),
-    /// No page. Anybody may ask so.
-    Evict,
-}
+/// What may be done with the chunk under a name: anybody reads the page in it, and nobody changes it there. No value of
+/// this type is made.
+pub struct Pages;
 
-impl CellObject for Page {
-    ghost use Rattle.std.specs.Prelude.{◌≡◌, List, ℕ, Option, Some, None, length, refl};
-    ghost use Rattle.page_cache.specs.declared.page.Page.{Page};
-    ghost use Rattle.page_cache.specs.Pages.{may, stepped};
+impl ChunkObject for Pages {
+    type Call = ();
 
-    const VALUE_WORDS: usize = PAGE_WORDS;
+    type Reply = Page;
 
-    type State = Page;
-
-    type Call = PageCall;
-
-    type Reply = Option<Page>;
-
-    ghost VALUE_WORDS = { 32 };
-
-    ghost stepped = { stepped };
+    ghost worked = { worked };
 
     ghost may = { may };
 
-    ghost is_value = { λ page. length page.words ≡ 32 };
-
-    ghost encoded = { λ page. page.words };
-
-    ghost decoded = { λ words. record { words = words } };
-
-    ghost reads_back = { λ page h. refl };
-
-    fn step(state: Option<&Page>, call: &PageCall) -> (Option<Page>, Option<Page>) {
-        let before = state.copied();
-        match call {
-            PageCall::Get => (before, before),
-            PageCall::Put(page) => (Some(*page), before),
-            PageCall::Evict => (None, before),
+    fn work(r: &Region, chunk: &mut Chunk, _call: &()) -> Page {
+        let mut words = [0; PAGE_WORDS];
+        for (i, word) in words.iter_mut().enumerate() {
+            *word = word_of(r, chunk, i as u64);
         }
+        Page { words }
     }
+}
 
-    fn reads(call: &PageCall) -> bool {
-        matches!(call, PageCall::Get)
+/// The chunk's n-th word, from 0, and 0 if it has fewer.
+#[inline]
+fn word_of(r: &Region, chunk: &mut Chunk, n: u64) -> u64
+    requires here { chunk.old.part.region ≡ r.now }
+    ensures part { chunk.new.part ≡ chunk.old.part }
+    ensures place { (chunk.new.at ≡ chunk.old.at) × (chunk.new.bytes ≡ chunk.old.bytes) }
+    ensures found { result ≡ slice_index_or (contents chunk.old) n 0 }
+{
+    if n < chunk.bytes / 8 {
+        chunk.load(r, n)
+    } else {
+        0
     }
+}
 
-    fn encode(state: &Page, out: &mut [u64]) {
-        out.copy_from_slice(&state.words);
-    }
-
-    fn decode(words: &[u64]) -> Page {
-        let mut page = Page {
-            words: [0; PAGE_WORDS],
-        };
-        page.words.copy_from_slice(words);
-        page
+/// Stores a page in a chunk of a page's bytes or more.
+pub fn store_page(chunk: &mut Chunk, r: &Region, page: &Page)
+    requires here { chunk.old.part.region ≡ r.now }
+    requires room { 8192 ≤ chunk.old.bytes }
+    ensures here { chunk.new.part.region ≡ chunk.old.part.region }
+    ensures place { (chunk.new.at ≡ chunk.old.at) × (chunk.new.bytes ≡ chunk.old.bytes) }
+    ensures words { read (contents chunk.new) ≡ page.now }
+{
+    for (i, word) in page.words.iter().enumerate() {
+        chunk.store(r, i as u64, *word);
     }
 }

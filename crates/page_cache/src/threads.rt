@@ -4,7 +4,7 @@ ghost use Rattle.std.specs.Prelude.{◌≡◌, ◌⊎◌, ◌*◌, ℕ, ◌<◌,
 ghost use Rattle.lock_book.specs.Shown.{number_of, seen_of};
 ghost use Rattle.dshash_core.specs.Key.{hash_of};
 ghost use Rattle.dshash_core.specs.Cells.{partition_of};
-ghost use Rattle.dshash_parts.specs.Tables.{callers_of};
+ghost use Rattle.chunk_table.specs.Tables.{callers_of};
 ghost use Rattle.page_cache.specs.Owned.{WasEvicted};
 ghost use Rattle.page_cache.specs.Pages.{owner_of};
 ghost use Rattle.page_cache.specs.Seats.{AreSeats, IsCache, IsSeat, StaysSeat};
@@ -12,9 +12,8 @@ ghost use Rattle.page_cache.specs.declared.cache.Seat.{Seat};
 
 use crate::cache::{Cache, Seat};
 use crate::calls::{NotPut, get, put};
-use crate::page::Page;
-use dshash_core::pack_key;
-use dshash_parts::DsPass;
+use crate::page::{PAGE_WORDS, Page, Pages};
+use chunk_table::ChunkPass;
 use std::alloc::{AllocError, Global};
 use std::sync::Wait;
 use std::thread::{Threads, map_vec};
@@ -38,7 +37,7 @@ fn put_and_get<R: Wait>(
     Ok(get(rt, cache, seat, name))
 }
 
-/// Does so with this many pages. Says for how many of them the answer was the page, or that it was evicted.
+/// Does so with this many pages. Says how many of them were put.
 fn work<R: Wait>(rt: &R, alloc: Global, cache: &Cache, mut seat: Seat, pages: u64) -> (Seat, u64)
     requires cache { IsCache cache.now }
     requires seat { IsSeat cache.now seat }
@@ -48,10 +47,9 @@ fn work<R: Wait>(rt: &R, alloc: Global, cache: &Cache, mut seat: Seat, pages: u6
     let mut good = 0;
     for number in 0..pages {
         let name = [u64::from(seat.pass.number()), number];
-        let Some(words) = pack_key(&number.to_le_bytes()) else {
-            unreachable!()
+        let page = Page {
+            words: [number; PAGE_WORDS],
         };
-        let page = Page { words };
         if put_and_get(rt, alloc, cache, &mut seat, &name, &page).is_ok() {
             good += 1;
         }
@@ -86,7 +84,7 @@ pub fn all_work<R: Threads + Wait + Sync>(
 pub fn passes_of(
     alloc: Global,
     seats: Vec<(Seat, u64)>,
-) -> Result<(Vec<DsPass<Page>>, u64), AllocError>
+) -> Result<(Vec<ChunkPass<Pages>>, u64), AllocError>
     ensures { IfOk result (λ r. r.0.items ≡ map (λ s. s.0.pass) seats.items) }
 {
     let mut passes = Vec::with_capacity(alloc, seats.len())?;
@@ -99,7 +97,7 @@ pub fn passes_of(
 }
 
 /// Ends a cache to which all seats have come home, and counts its entries.
-pub fn entries_left(cache: Cache, passes: Vec<DsPass<Page>>) -> u64
+pub fn entries_left(cache: Cache, passes: Vec<ChunkPass<Pages>>) -> u64
     requires cache { IsCache cache }
     requires seats { (seats : List Seat) × AreSeats cache seats × (passes.items ≡ map (λ s. s.pass) seats) }
     ensures few { result ≤ callers_of cache.table * cache.share }

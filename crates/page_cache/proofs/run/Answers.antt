@@ -16,9 +16,9 @@ pub entries_left-requires-clause-seats : goal.entries_left-requires-clause-seats
 entries_left-requires-clause-seats g c =
     let seat_of = λ (d : Seat × ℕ). d.0 in
     let went = c.in_ok-cache.seats.items in
-    let done = c.in-Ok.done.items in
+    let done = c.in_ok-done.done.items in
     let all = c.in_ok-cache.ensures.seats in
-    let came = c.in-Ok.ensures in
+    let came = c.in_ok-done.ensures in
     let count = came.count in (
       map seat_of done,
       record {
@@ -34,5 +34,5 @@ entries_left-requires-clause-seats g c =
             let was = get_or went k d.0.0 in
             ap (λ (z : Seat). number_of z.pass) (sym d.2 ∙ ap seat_of r.1) ∙ (came.own k d.0 low).1 ∙ all.numbers k was (at_index went k was low (get_or_default went k d.0.0 was low));
       },
-      c.in-Ok-passes_of.ensures ∙ sym (map_map seat_of (λ (s : Seat). s.pass) done),
+      c.in_ok-passes.ensures ∙ sym (map_map seat_of (λ (s : Seat). s.pass) done),
     )

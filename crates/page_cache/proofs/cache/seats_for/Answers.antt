@@ -4,7 +4,7 @@ use lib.ListN.{get_elem?}
 use Rattle.std.specs.Vec.Iter.{into_iter_items}
 use Rattle.lock_book.specs.Shown.{mine_of, number_of, seen_of}
 use Rattle.dsa_area.specs.Shown.{Belongs as AreaBelongs}
-use Rattle.dshash_parts.specs.Tables.{Belongs}
+use Rattle.chunk_table.specs.Tables.{Belongs}
 use Rattle.page_cache.specs.Seats.{IsSeat}
 use Rattle.page_cache.specs.declared.cache.Seat.{Seat}
 use Rattle.page_cache.proofs.Lists.{at_end, first, one_more, others, popped, pushed}
@@ -40,7 +40,7 @@ loop-pass-preserved c =
     let shorter = ap (λ l. length l) one in
     let head = first (λ j p. Belongs c.args.cache.now.table p × (number_of p ≡ length seats + j) × ((i : ℕ) → (seen_of p i ≡ []) × (mine_of p i ≡ []))) left left' c.in-Some.pass one was.still in
     let own = at_end (λ _ p. AreaBelongs c.args.cache.now.area p) _ _ c.in-Some-pop.apass area was.area_own in
-    let seat : IsSeat c.args.cache.now (record { pass = c.in-Some.pass; apass = c.in-Some-pop.apass; tickets = c.args.cache.now.share; hand = 0; spare = None }) = record { own = head.0; area_own = own; paid = begins c.args.cache.now.area _ c.args.cache.now.share _ _ _ head.2; hand = omega arith; spare = tt } in
+    let seat : IsSeat c.args.cache.now (record { pass = c.in-Some.pass; apass = c.in-Some-pop.apass; tickets = c.args.cache.now.share; hand = 0; spare = None }) = record { own = head.0; area_own = own; settled = begins c.args.cache.now.area (number_of c.in-Some.pass) c.args.cache.now.share (seen_of c.in-Some.pass) (mine_of c.in-Some.pass) c.in-Some-pop.apass head.2; hand = omega arith; spare = tt } in
     record {
       seats = pushed (λ k (s : Seat). IsSeat c.args.cache.now s × (number_of s.pass ≡ k) × ((i : ℕ) → (seen_of s.pass i ≡ []) × (mine_of s.pass i ≡ []))) seats _ _ more was.seats (seat, (let n = head.1 in omega (arith, n)), head.2);
       still = λ k p at. let r = others (λ j p. Belongs c.args.cache.now.table p × (number_of p ≡ length seats + j) × ((i : ℕ) → (seen_of p i ≡ []) × (mine_of p i ≡ []))) left left' c.in-Some.pass one was.still k p at in (r.0, (let n = r.1 in omega (arith, n, longer)), r.2);

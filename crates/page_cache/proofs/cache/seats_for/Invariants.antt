@@ -4,7 +4,7 @@ use mathlib.Core.Option.{some}
 use lib.ListN.{get_elem?}
 use Rattle.lock_book.specs.Shown.{mine_of, number_of, seen_of}
 use Rattle.dsa_area.specs.Shown.{Belongs as AreaBelongs}
-use Rattle.dshash_parts.specs.Tables.{Belongs, callers_of}
+use Rattle.chunk_table.specs.Tables.{Belongs, callers_of}
 use Rattle.page_cache.specs.Seats.{IsSeat}
 use Rattle.page_cache.specs.declared.cache.Seat.{Seat}
 use Rattle.page_cache.proofs.cache.seats_for.Given as goal

@@ -1,9 +1,10 @@
 use Rattle.std.proofs.Common.{◌∙◌, ℕ, ap, sym, subst, arith}
 use Rattle.std.specs.FinMap as fin
-use Rattle.dshash_parts.specs.Ending.{Ended, left_of, whole_of}
+use Rattle.chunk_table.specs.Ending.{Ended, left_of, whole_of}
 use Rattle.dshash_parts.specs.States.{fresh}
 use Rattle.lock_book.specs.History.{last_of}
-use Rattle.dshash_parts.specs.Tables.{AreAll, callers_of, map_at}
+use Rattle.chunk_table.specs.Tables.{AreAll, callers_of}
+use Rattle.dshash_parts.specs.Tables.{map_at}
 use Rattle.page_cache.specs.Pages.{stepped}
 use Rattle.page_cache.specs.Tickets.{sum_below}
 use Rattle.page_cache.proofs.Endings.{all_passes, end_moment}

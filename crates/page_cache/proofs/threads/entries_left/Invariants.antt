@@ -1,7 +1,8 @@
 use Rattle.std.proofs.Common.{◌+◌, ◌*◌, ◌≤◌}
 use Rattle.std.specs.FinMap as fin
-use Rattle.dshash_parts.specs.Ending.{IsOf, left_of, whole_of}
-use Rattle.dshash_parts.specs.Tables.{callers_of, map_at}
+use Rattle.chunk_table.specs.Ending.{IsOf, left_of, whole_of}
+use Rattle.chunk_table.specs.Tables.{callers_of}
+use Rattle.dshash_parts.specs.Tables.{map_at}
 use Rattle.page_cache.specs.Tickets.{sum_below}
 use Rattle.page_cache.proofs.threads.entries_left.Given as goal
 

@@ -1,5 +1,5 @@
 use Rattle.page_cache.proofs.Moments.{always_paid}
-use Rattle.page_cache.proofs.cache.always_paid.Goals as goal
+use Rattle.page_cache.proofs.laws.always_paid.Goals as goal
 
 pub returns : goal.returns
 returns c = always_paid
