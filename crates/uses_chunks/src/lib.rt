@@ -6,6 +6,8 @@
 mod growing;
 mod keeping;
 #[cfg(test)]
+mod many;
+#[cfg(test)]
 mod tests;
 
 pub use growing::Growing;

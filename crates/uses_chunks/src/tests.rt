@@ -2,6 +2,7 @@
 
 ghost use Rattle.std.specs.Prelude.{◌≤◌, ◌≡◌, IfOk};
 ghost use Rattle.dsa_area.specs.Shown.{Belongs, IsArea};
+ghost use Rattle.chunk_table.specs.Tables.{callers_of};
 ghost use Rattle.uses_chunks.specs.Ready.{IsReady};
 
 use crate::growing::Growing;
@@ -14,7 +15,7 @@ use std::alloc::Global;
 use std::sync::Wait;
 use std::test::Fail;
 
-type One = (
+pub(crate) type One = (
     Region,
     Area,
     ChunkTable<Growing>,
@@ -24,9 +25,10 @@ type One = (
 
 /// A table for one caller, in an area of this many pages.
 #[tactic(auto, using(word_map::proofs::Maps::answers, std::proofs::lemmas::Bool::Decides::nat_tests))]
-fn open(alloc: Global, pages: u32) -> Result<One, Fail>
+pub(crate) fn open(alloc: Global, pages: u32) -> Result<One, Fail>
     requires few { pages ≤ 4096 }
     ensures ready { IfOk result (λ o. IsReady o.0 o.1 o.2 o.3 o.4) }
+    ensures callers { IfOk result (λ o. callers_of o.2 ≡ 1) }
 {
     let words = area_words(pages);
     let Ok((region, mut part)) = Region::new(alloc, words as usize + 129) else {
@@ -49,7 +51,13 @@ fn open(alloc: Global, pages: u32) -> Result<One, Fail>
 }
 
 /// The number of a chunk, which goes back to the area.
-fn number_of<R: Wait>(rt: &R, r: &Region, area: &Area, apass: &mut AreaPass, chunk: Chunk) -> u64
+pub(crate) fn number_of<R: Wait>(
+    rt: &R,
+    r: &Region,
+    area: &Area,
+    apass: &mut AreaPass,
+    chunk: Chunk,
+) -> u64
     requires area { IsArea r.now area.now }
     requires own { Belongs area.now apass.old }
     requires here { chunk.part.region ≡ r.now }

@@ -14,4 +14,5 @@ returns c =
         area = a.area;
         area_own = a.passes.each 0 c.in-Some-Some.apass (only _ _ _ c.in-Some-Some.ensures.items (a.passes.count ∙ a.callers));
       };
+      callers = t.callers;
     }
