@@ -10,7 +10,8 @@ const PAUSE_SECONDS: u64 = 1;
 /// The bytes of a mebibyte.
 const MIB: u64 = 1_048_576;
 
-/// A line on a terminal, which is overwritten once a second. If the output is no terminal nothing is written.
+/// A line on a terminal, which is overwritten once a second. If the output is no terminal nothing is written. Up to ten billion
+/// rows the line fits into 39 columns, which are blanked at the end.
 #[derive(Drop)]
 pub(crate) struct ProgressLine<'a, C, W> {
     clock: &'a C,
@@ -54,13 +55,9 @@ impl<'a, C: Clock, W: Write + IsTerminal + Drop> Progress for ProgressLine<'a, C
         }
         let mib = so_far.bytes / MIB;
         let rows = so_far.rows;
-        let groups = so_far.groups;
         if let Some(terminal) = &mut self.terminal {
             // That a line can't be written changes nothing else.
-            let _ = write!(
-                terminal,
-                "\rparstream: {mib} MiB, {rows} rows, {groups} groups or more"
-            );
+            let _ = write!(terminal, "\rparstream: {mib} MiB, {rows} rows");
             self.is_shown = true;
         }
     }
@@ -70,7 +67,7 @@ impl<'a, C: Clock, W: Write + IsTerminal + Drop> Progress for ProgressLine<'a, C
             return;
         }
         if let Some(terminal) = &mut self.terminal {
-            let _ = write!(terminal, "\r{:79}\r", "");
+            let _ = write!(terminal, "\r{:39}\r", "");
         }
         self.is_shown = false;
     }
