@@ -121,9 +121,9 @@ class Cuts(unittest.TestCase):
         source = tool.erase("fn main(rt: HostRuntime) -> ExitCode { x }")
         framed = tool.with_frame(source, True)
         self.assertIn("fn main_with(rt: HostRuntime)", framed)
-        self.assertIn("fn main() -> ExitCode { main_with(", framed)
+        self.assertIn("fn main() -> ExitCode { rattle_std::end_at_panics(); main_with(", framed)
         framed = tool.with_frame(tool.erase("fn main(rt: HostRuntime) {}"), True)
-        self.assertIn("fn main()  { main_with(", framed)
+        self.assertIn("fn main()  { rattle_std::end_at_panics(); main_with(", framed)
 
 
 class Leaves(unittest.TestCase):

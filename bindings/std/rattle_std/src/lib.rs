@@ -14,6 +14,7 @@ pub mod hash;
 pub mod io;
 mod macros;
 pub mod marker;
+mod panics;
 pub mod process;
 mod runtime;
 pub mod simd;
@@ -27,6 +28,7 @@ pub mod thread;
 pub mod time;
 pub mod vec;
 
+pub use panics::end_at_panics;
 pub use runtime::HostRuntime;
 pub use std::{borrow, cell, char, cmp, convert, error, fmt, iter, mem, num, ops, option, result, slice, str};
 
