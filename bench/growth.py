@@ -10,6 +10,7 @@ and `workers` read the files of files.py there. `--small` makes a hundredth of e
 measures nothing.
 """
 import argparse
+import itertools
 import json
 import os
 import random
@@ -61,17 +62,22 @@ def made(lines):
 
 def table_of_columns(times, part):
     head("columns", [0, 4])
-    for columns in (2, 4, 10, 30, 100):
+    for columns in (1, 2, 4, 10, 30, 100):
         rows, draw = 6_000_000 // columns // part, random.Random(5)
         rest = "".join(f",text{at:04d}" for at in range(columns - 2))
         header = "g,v" + "".join(f",c{at}" for at in range(columns - 2)) + "\n"
-        path, size = made([header] + [f"g{draw.randrange(1000):03d},{draw.randrange(10**9)}{rest}\n" for _ in range(rows)])
-        row(columns, rows, size, "--group g --agg count,sum:v", path, [0, 4], times)
+        lines = (f"g{draw.randrange(1000):03d},{draw.randrange(10**9)}{rest}\n" for _ in range(rows))
+        items = "count,sum:v"
+        if columns == 1:
+            header, items = "g\n", "count"
+            lines = (f"g{draw.randrange(1000):03d}\n" for _ in range(rows))
+        path, size = made(itertools.chain([header], lines))
+        row(columns, rows, size, f"--group g --agg {items}", path, [0, 4], times)
 
 
 def table_of_keys(times, part):
     head("bytes of a key", [0, 4])
-    for width in (8, 16, 32, 64, 128, 240):
+    for width in (8, 16, 32, 64, 128, 244):
         rows, draw = 1_000_000 // part, random.Random(6)
         path, size = made(["g,v\n"] + [f"{draw.randrange(100_000):0{width}d},{at}\n" for at in range(rows)])
         row(width, rows, size, "--group g --agg count,sum:v", path, [0, 4], times)
