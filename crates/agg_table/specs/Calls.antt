@@ -64,7 +64,7 @@ calls_at number groups = map called (filter (λ (g : Group). partition_at g == n
 abbrev pub WasMissed : (ℕ → List AggEntry) → Group → Type 0
 WasMissed turns g = Any (λ (e : AggEntry). IsMissing (packed_key g.0) g.1 e.call e.reply) (turns (partition_at g))
 
--- a chain with so many items takes no new key
+-- a chain with this many items takes no new key
 abbrev pub longest_chain : ℕ
 longest_chain = 64
 

@@ -14,7 +14,7 @@ use partial_agg::GroupKey;
 use region_words::Region;
 use std::sync::Wait;
 
-/// A chain with so many items takes no new key: whoever chooses the keys can't make a longer one.
+/// A chain with this many items takes no new key: whoever chooses the keys can't make a longer one.
 const LONGEST_CHAIN: u32 = 64;
 
 /// A key's bytes as the words of a packed key.

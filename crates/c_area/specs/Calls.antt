@@ -55,7 +55,7 @@ abbrev pub Writes : Option Share → Option Share → (number from : ℕ) (words
 Writes None new number from words code = (new ≡ None) × (code ≡ Blank)
 Writes (Some s) new number from words code = (t : Share) × (new ≡ Some t) × try.Writes s t number from words code
 
--- the bytes of so many words are written, if there is such a chunk
+-- the bytes of this many words are written, if there is such a chunk
 abbrev pub TellsBytes : Option ℕ → (bytes bytes' : ℕ) → Code → Type 0
 TellsBytes (Some words) bytes bytes' code = (code ≡ Done) × (bytes' ≡ 8 * words)
 TellsBytes None bytes bytes' code = (code ≡ Stranger) × (bytes' ≡ bytes)

@@ -62,7 +62,7 @@ module _ (n : AreaName) (before after : AreaState) where
       ((class : ℕ) × IsLeast bytes class × AtClass (GrantsObject at) class)
       ⊎ ((largest_size < bytes) × AtPages (Take (pages_for bytes) false) (Gets at))
 
-  -- it is refused: so many pages in a row are not free
+  -- it is refused: this many pages in a row are not free
   abbrev pub Refuses : ℕ → ℕ → ℕ → Type 0
   Refuses bytes wanted largest =
       ((class : ℕ) × IsLeast bytes class × AtClass (LacksObject wanted largest) class)

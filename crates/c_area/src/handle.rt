@@ -286,7 +286,7 @@ fn told_usage(answer: Option<Usage>, used: &mut u32, largest: &mut u32) -> Code
     }
 }
 
-/// Writes the bytes of so many words, if there are any.
+/// Writes the bytes of this many words, if there are any.
 fn told_size(words: Option<u64>, bytes: &mut u64) -> Code
     requires few { IfSome words (λ n. n ≤ 2 ^ 26) }
     ensures { TellsBytes words bytes.old bytes.new result }

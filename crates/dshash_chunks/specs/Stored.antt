@@ -31,7 +31,7 @@ chunks_seen p store = record {
 abbrev pub IsOneOf : ChunkName → ℕ → Type 0
 IsOneOf n k = (n.at ≤ k) × (k < n.at + n.bytes / 8)
 
--- the chunk of the name can be cut off these words: they have all of its own, and it is a chunk
+-- the chunk of the name can be cut off these words: they have all of its words, and it is a chunk
 pub record IsCuttable (words : WordMap) (n : ChunkName) : Type 0 where
   pub valid : 0 < n.at
   pub whole : n.bytes % 8 ≡ 0

@@ -1,7 +1,7 @@
 //! Several calls in one turn of a partition.
 //!
 //! A caller with many calls for keys of one partition, such as a group-by that has sorted its groups by partition, takes
-//! the partition's lock once for all of them. Each call is an event of its own, and no other caller's comes between
+//! the partition's lock once for all of them. Each call is a separate event, and no other caller's comes between
 //! two of them. A call that lacks an item, or finds that the partition has to grow, says so and ends nothing: the caller
 //! brings a spare item with it, or ends the turn and makes that call by `call`. So no turn waits for the area.
 

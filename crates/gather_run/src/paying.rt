@@ -38,7 +38,7 @@ pub(crate) fn workers_pay(alloc: Global, rows: &RowStore, plan: &BoundPlan, work
     }
 }
 
-/// How many groups the rows of a sample have, of a table of so many blocks; none if there is no answer for these rows.
+/// How many groups a sample of the rows has, of a table of this many blocks; none if these rows have no answer.
 fn sampled_groups(alloc: Global, rows: &RowStore, plan: &BoundPlan, blocks: u64) -> Option<u64>
     requires blocks { AreBlocks rows.now blocks }
     requires columns { HasColumns plan.now (header_width rows.now) }
@@ -58,7 +58,7 @@ fn sampled_groups(alloc: Global, rows: &RowStore, plan: &BoundPlan, blocks: u64)
     Some(groups.len() as u64)
 }
 
-/// Whether the groups of a table have many rows each, if so many groups are those of a sample. If all groups are of one
+/// Whether the groups of a table have many rows each, if this many groups are those of a sample. If all groups are of one
 /// size, n rows of g groups meet one that is there already about n * n / 2g times.
 fn has_few_groups(groups: u64, blocks: u64) -> bool {
     let rows = SAMPLED * BLOCK_ROWS;

@@ -42,7 +42,7 @@ pub record HasCounted (o : Opened) (bound : Plan) (t : Tally) (rows : Table) : T
 abbrev pub line_stretch : Rules → List ℕ → Stretch
 line_stretch r line = record { reading = r.plan.now.reading; header = r.header.now; lines = line; rest = [] }
 
--- a line comes after these rows and so many line feeds, and is one of the bytes of the source; the header's line ends outside
+-- a line comes after these rows and this many line feeds, and is one of the bytes of the source; the header's line ends outside
 -- quotes
 pub record IsNext (o : Opened) (left : Option (List ℕ)) (r : Rules) (feeds : ℕ) (rows : Table) (line rest : List ℕ) : Type 0 where
   pub part : HasPart o.query.reading o.from left (o.header ∷ rows) feeds (line_stretch r line ∷ []) rest
@@ -62,7 +62,7 @@ CountsNot r line old new = (o : Opened) (left : Option (List ℕ)) (rows : Table
 abbrev pub HasTooMany : Opened → Type 0
 HasTooMany o = IfSome o.from (λ bytes. o.most < length (refused_records o.query (records_as o.query.reading bytes)))
 
--- with the row of a line, which comes after those that were counted, there are so many
+-- with the row of a line, which comes after those that were counted, there are this many
 abbrev pub IsOneTooMany : Rules → List ℕ → Tally → Type 0
 IsOneTooMany r line old = (o : Opened) (left : Option (List ℕ)) (rows : Table) (rest : List ℕ) → AreRules o r → IsNext o left r old.feeds rows line rest → HasCounted o r.bound.now old rows → HasTooMany o
 

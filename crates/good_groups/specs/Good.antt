@@ -28,12 +28,12 @@ refused_records query (header ∷ rows) = refused_rows (bound_plan header query.
 abbrev pub good_way : Way → Query → Way
 good_way way query = record { text = way.text; records = λ bytes. good_records query (way.records bytes) }
 
--- what was left out: no row, or so many, at most this many, and the first one is so told
+-- what was left out: no row, or some rows, at most this many, and of the first of them it is told why
 pub record IsLeftOut (way : Way) (query : Query) (most : ℕ) (from : Option (List ℕ)) (out : Option LeftOut) : Type 0 where
   pub none : out ≡ None → IfSome from (λ bytes. refused_records query (way.records bytes) ≡ [])
   pub some : IfSome out (λ o. (0 < o.count) × (o.count ≤ most) × Tells way query from (stop.Refused o.first) × IfSome from (λ bytes. length (refused_records query (way.records bytes)) ≡ o.count))
 
--- After some records of bytes, of which at most so many are refused, begins a record of more bytes than a record may have:
+-- After some records of bytes, of which at most this many are refused, begins a record of more bytes than a record may have:
 -- from some place on they have the other records, and begin with some whose text is too long and cannot be cut
 pub record HasLongAfter (way : Way) (query : Query) (most : ℕ) (bytes : List ℕ) : Type 0 where
   pub front : List ℕ

@@ -57,7 +57,7 @@ pub struct GoodGroups {
 const FIRST_BYTES: usize = 4096;
 
 /// Reads the whole source as `read_input` of `stream_groups` does, but leaves out the rows that are refused, if there are at
-/// most so many of them. If there are more the reason is the first one, as it is without. Lines are judged in the caller's
+/// most this many of them. If there are more the reason is the first one, as it is without. Lines are judged in the caller's
 /// thread, as they are read, those of a piece at once, with the memory of their fields.
 pub fn read_good<R: Threads + Wait + Sync, S: Source, P: Progress>(
     rt: &R,
@@ -290,7 +290,7 @@ fn is_cut(bytes: &[u8]) -> bool
     scanned(without_mark(bytes), Place::Opens) != Place::Quoted
 }
 
-/// A text of which nothing was counted yet, after so many line feeds.
+/// A text of which nothing was counted yet, after this many line feeds.
 fn sifting_of(line: Vec<u8>, pending: Piece, ahead: Bytes, feeds: u64, is_done: bool) -> Sifting
     ensures { result ≡ record { sifter = record { line = line; place = place.Opens; pending = pending; ahead = ahead; tally = record { rows = 0; feeds = feeds; count = 0; first = None } }; is_done = is_done; halt = None; lacks = 0 } }
 {

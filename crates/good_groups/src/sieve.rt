@@ -185,7 +185,7 @@ impl Sifting {
     }
 }
 
-/// The reason that a line is too long, which comes after so many rows and line feeds.
+/// The reason that a line is too long, which comes after this many rows and line feeds.
 fn long_stop(alloc: Global, rows: u64, feeds: u64, line: &[u8]) -> Stop
     ensures { (IsStopOfLong (rows + 1) feeds line.now result) ⊎ (result ≡ stop.Memory) }
 {

@@ -264,7 +264,7 @@ impl Tally {
     }
 }
 
-/// What is said of the row of a line, which has this number and is refused. So many line feeds come before the line.
+/// What is said of the row of a line, which has this number and is refused. This many line feeds come before the line.
 fn refused_row(
     alloc: Global,
     rules: &Rules<'_>,

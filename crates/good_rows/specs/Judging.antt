@@ -15,7 +15,7 @@ IsJudged reading plan width line judged.Nothing = records_as reading line ≡ []
 IsJudged reading plan width line judged.Good = (row : List (List ℕ)) × (records_as reading line ≡ row ∷ []) × (refusal plan width row ≡ None)
 IsJudged reading plan width line (judged.Refused why) = (row : List (List ℕ)) × (records_as reading line ≡ row ∷ []) × (refusal plan width row ≡ Some why)
 
--- so many of some bytes, which a scan reaches at one place and leaves at another, go on with a line
+-- this many of some bytes, which a scan reaches at one place and leaves at another, go on with a line
 pub record GoesOn (start : Place) (bytes : List ℕ) (at : ℕ) (p : Place) : Type 0 where
   pub left : (keeps : List ℕ → Bool) (line rest : List ℕ) → left_of keeps start line (bytes ++ rest) ≡ left_of keeps p (line ++ take at bytes) (drop at bytes ++ rest)
   pub begun : (line : List ℕ) → IsBegun line start → IsBegun (line ++ take at bytes) p

@@ -10,7 +10,7 @@ use Rattle.stream_groups.specs.declared.stop.Stop.TheVariants as stop
 use Rattle.good_groups.specs.Good.{HasNoTable, IsLeftOut, good_way, refused_records}
 use Rattle.good_groups.specs.declared.reading.LeftOut.{LeftOut}
 
--- a query is asked for, at most so many rows of the bytes are refused, and a text is that of the table of the others
+-- a query is asked for, at most this many rows of the bytes are refused, and a text is that of the table of the others
 pub record IsGoodText (most : ℕ) (asked : Option Query) (bytes text : List ℕ) : Type 0 where
   pub query : Query
   pub is : asked ≡ Some query
@@ -23,7 +23,7 @@ pub record LeavesOut (most : ℕ) (asked : Option Query) (left : Option (List �
   pub is : asked ≡ Some query
   pub out : IsLeftOut (of_bytes query.reading) query most left rows
 
--- a query is asked for, and bytes have no table of the rows that it does not refuse, if so many rows may be left out
+-- a query is asked for, and bytes have no table of the rows that it does not refuse, if this many rows may be left out
 pub record HasNoGoodText (most : ℕ) (asked : Option Query) (bytes : List ℕ) : Type 0 where
   pub query : Query
   pub is : asked ≡ Some query

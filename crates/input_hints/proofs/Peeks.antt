@@ -6,7 +6,7 @@ use Rattle.std.specs.Io.KnownBytes.{Consumes, IsAtEnd, Keeps, prepend_known}
 use Rattle.input_hints.specs.Kinds.{kind_by, kind_in}
 use Rattle.input_hints.specs.declared.kind.Kind.{Kind}
 
--- so many bytes more were read after those that were there, and nothing is lost
+-- this many bytes more were read after those that were there, and nothing is lost
 pub kept_more : (a b : Option (List ℕ)) (old new : List ℕ) (at n : ℕ) → take at new ≡ take at old → Consumes a b (take n (drop at new))
     → Keeps (prepend_known (take at old) a) (prepend_known (take (at + n) new) b)
 kept_more None b old new at n front read = tt

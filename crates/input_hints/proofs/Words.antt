@@ -23,7 +23,7 @@ module _ {A : Type 0} (words : List (String A)) where
   pub place_of_decimals : position_or_len is_decimals (texts words) ≡ position_or_len (λ word. is_decimals (string_bytes word)) words
   place_of_decimals = position-map is_decimals string_bytes words
 
-  -- at most so many words from a place on
+  -- at most this many words from a place on
   pub texts_from : (at size : ℕ) → texts (take (min size (length (drop at words))) (drop at words)) ≡ take size (drop at (texts words))
   texts_from at size =
       let left = drop at words in

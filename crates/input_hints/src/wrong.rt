@@ -240,7 +240,7 @@ fn wants_value(word: &str) -> bool
     }
 }
 
-/// What is wrong at a word that begins with the name of an option, after so many words that are understood.
+/// What is wrong at a word that begins with the name of an option, after this many words that are understood.
 fn wrong_option(words: &[String], understood: usize, name: Name) -> Wrong
     requires { understood < length words.now }
     ensures { result ≡ wrong_option (texts words.now) understood name }

@@ -1,4 +1,4 @@
--- The numbers of so many rows, one after the other.
+-- The numbers of this many rows, one after the other.
 use Rattle.std.proofs.Common.{◌≡◌, ◌+◌, ◌++◌, ℕ, zero, suc, Bool, true, false, cond, filter, not, List, [], ◌∷◌, drop, length, refl, ap, sym, ◌∙◌, arith, append-nil}
 use mathlib.Core.Bool.{beq}
 use Rattle.std.specs.List.{range_with_len}

@@ -14,7 +14,7 @@ row_on Right p = p.right
 abbrev pub has_pair : Side → List Pair → ℕ → Bool
 has_pair side pairs row = list_any (λ p. row_on side p == row) pairs
 
--- the numbers of so many rows, which count from 1
+-- the numbers of this many rows, which count from 1
 abbrev pub numbers_to : ℕ → List ℕ
 numbers_to rows = range_with_len 1 rows
 

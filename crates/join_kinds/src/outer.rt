@@ -55,7 +55,7 @@ fn as_joined(alloc: Global, pairs: &[Pair]) -> Result<Vec<JoinedRow>, AllocError
         .collect(alloc)
 }
 
-/// Adds the right rows, of so many, that have no pair.
+/// Adds the right rows, of this many, that have no pair.
 fn add_lone(
     alloc: Global,
     pairs: &[Pair],
@@ -70,8 +70,8 @@ fn add_lone(
     Ok(())
 }
 
-/// The left outer join of two tables, from their pairs in order, as `hash_join` gives them: each left row, of so many,
-/// with each of its partners, or once if it has none. The time is linear in the pairs and the rows, and there is no
+/// The left outer join of two tables, from their pairs in order, as `hash_join` gives them: each of these
+/// left rows with each of its partners, or once if it has none. The time is linear in the pairs and the rows, and there is no
 /// memory but the result's.
 pub fn left_outer_join(
     alloc: Global,
@@ -90,7 +90,7 @@ pub fn left_outer_join(
     Ok(joined)
 }
 
-/// The right outer join of two tables, from their pairs: the pairs as they come, and then each right row, of so many,
+/// The right outer join of two tables, from their pairs: the pairs as they come, and then each right row, of this many,
 /// that has no partner. The time is linear in the pairs and the rows, and the memory is a byte for each right row and 8
 /// for each that has no partner, besides the result.
 pub fn right_outer_join(

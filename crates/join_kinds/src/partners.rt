@@ -67,7 +67,7 @@ fn rows_with(
     Ok(list)
 }
 
-/// The semi join: the rows of a side, of so many, that have a pair, in order, each once. The pairs may come in any
+/// The semi join: the rows of a side, of this many, that have a pair, in order, each once. The pairs may come in any
 /// order; one of a row that the side doesn't have counts for nothing. The time is linear in the pairs and the rows, and
 /// the memory is a byte for each row besides the result.
 pub fn semi_join(
@@ -85,7 +85,7 @@ pub fn semi_join(
     rows_with(alloc, pairs, side, rows, true)
 }
 
-/// The anti join: the rows of a side, of so many, that have no pair, in order. A row whose field is empty is one of
+/// The anti join: the rows of a side, of this many, that have no pair, in order. A row whose field is empty is one of
 /// them, since it has a pair with no row. Order, time and memory are as for [`semi_join`].
 pub fn anti_join(
     alloc: Global,

@@ -42,7 +42,7 @@ pub extern "C" fn lk_raw_area_share(alloc: Global, from: &mut Handle, next: &mut
     share(alloc, from, next).number()
 }
 
-/// Tries to get a chunk of at least so many bytes; its number and its bytes are written. The costs of this and of the next
+/// Tries to get a chunk of at least this many bytes; its number and its bytes are written. The costs of this and of the next
 /// three are those of `c_area::Caller`'s calls.
 #[unsafe(no_mangle)]
 pub extern "C" fn lk_raw_area_alloc(

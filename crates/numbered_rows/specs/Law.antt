@@ -6,7 +6,7 @@ use Rattle.csv_rows.specs.declared.cleaning.Reading.{Reading}
 use Rattle.numbered_rows.specs.Numbers.{numbered, width_of}
 use Rattle.numbered_rows.specs.declared.front.TheConstants.{FRONT}
 
--- the numbers of so many columns, from 1 on
+-- the numbers of this many columns, from 1 on
 abbrev pub column_numbers : ℕ → List (List ℕ)
 column_numbers width = map (λ at. decimal (at + 1)) (range_with_len 0 width)
 

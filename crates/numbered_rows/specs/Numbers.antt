@@ -23,15 +23,15 @@ mark_text separator = if is_ascii_digit separator then 34 ∷ [] else []
 abbrev pub number_text : ℕ → ℕ → List ℕ
 number_text separator number = mark_text separator ++ (decimal number ++ mark_text separator)
 
--- the numbers of so many columns, from 1 on
+-- the numbers of this many columns, from 1 on
 abbrev pub numbers_text : ℕ → ℕ → List ℕ
 numbers_text separator width = join_by (λ at. number_text separator (at + 1)) (separator ∷ []) (range_with_len 0 width)
 
--- the header of so many columns, which a carriage return ends; there is none if there are no columns
+-- the header of this many columns, which a carriage return ends; there is none if there are no columns
 abbrev pub header_text : ℕ → ℕ → List ℕ
 header_text separator width = if width == 0 then [] else numbers_text separator width ++ 13 ∷ []
 
--- a header of so many columns, and the bytes of a table after a byte order mark
+-- a header of this many columns, and the bytes of a table after a byte order mark
 abbrev pub headed : ℕ → ℕ → List ℕ → List ℕ
 headed separator width bytes = header_text separator width ++ strip_bom bytes
 

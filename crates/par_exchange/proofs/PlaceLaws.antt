@@ -44,7 +44,7 @@ module _ {T : Type 0} where
   set_none (p ∷ ps) zero e = ap (λ (q : Option T). q ∷ ps) (sym e)
   set_none (p ∷ ps) (suc n) e = ap (λ (qs : List (Option T)). p ∷ qs) (set_none ps n e)
 
-  -- no place of so many empty ones has a token
+  -- no place of this many empty ones has a token
   pub at_cleared : (ps : List (Option T)) (k : ℕ) → at (cleared ps) k ≡ None
   at_cleared [] k = refl
   at_cleared (p ∷ ps) zero = refl
@@ -96,7 +96,7 @@ module _ {T : Type 0} where
   not_missing ps ms k e here a = true-false (takes_part k ms) here (is_missing ps ms k e a)
 
 module _ {A : Type 0} where
-  -- so many of the same, and one more
+  -- this many of the same, and one more
   same_snoc : (n : ℕ) (a : A) → replicate n a ++ a ∷ [] ≡ replicate (suc n) a
   same_snoc zero a = refl
   same_snoc (suc n) a = ap (λ (l : List A). a ∷ l) (same_snoc n a)

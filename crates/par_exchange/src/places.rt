@@ -17,7 +17,7 @@ pub(crate) fn empty_places<T: Drop>(alloc: Global, count: u32) -> Result<Vec<Opt
     Ok(places)
 }
 
-/// So many marks, all of them true.
+/// This many marks, all of them true.
 pub(crate) fn all_marked(alloc: Global, count: u32) -> Result<Vec<bool>, AllocError>
     ensures { IfOk result (λ v. v.items ≡ replicate count true) }
 {

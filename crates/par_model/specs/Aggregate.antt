@@ -42,7 +42,7 @@ no_values = record { count = 0; sum = pos 0; least = pos 0; greatest = pos 0 }
 abbrev pub number_slot : List (List ℕ) → List ℤ → SlotState
 number_slot values numbers = record { count = length values; sum = total numbers; least = least numbers; greatest = greatest numbers }
 
--- the slot of an aggregate over these values of its column, as numbers with so many places
+-- the slot of an aggregate over these values of its column, as numbers with this many places
 abbrev pub slot_by : ItemKind → ℕ → List (List ℕ) → SlotState
 slot_by kind.Rows places values = no_values
 slot_by kind.Count places values = number_slot values []

@@ -5,7 +5,7 @@ use Rattle.std.specs.Fmt.{sign_text}
 use Rattle.std.specs.Int.{is_negative}
 use Rattle.par_model.specs.Number.{signed}
 
--- a point and the last digits of a number, so many; nothing for no digits
+-- a point and the last digits of a number, this many; nothing for no digits
 abbrev pub places_text : ℕ → ℕ → List ℕ
 places_text zero n = []
 places_text (suc more) n = 46 ∷ drop 1 (decimal (10 ^ suc more + n % 10 ^ suc more))

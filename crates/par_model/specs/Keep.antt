@@ -22,7 +22,7 @@ stands op.LessEqual a b = int_le a b
 stands op.Greater a b = int_lt b a
 stands op.GreaterEqual a b = int_le b a
 
--- whether a field passes a test: it is a number, of at most so many places, that has the relation to the value; it is the
+-- whether a field passes a test: it is a number, of at most this many places, that has the relation to the value; it is the
 -- text; or it is neither null nor the text. So a null passes no test but that of the empty text
 abbrev pub passes : ℕ → FilterTest → List ℕ → Bool
 passes places (test.Number op value) field = option_map_or (λ n. stands op n value) (decimal_of places field) false

@@ -9,7 +9,7 @@ use Rattle.par_model.specs.Number.{is_numeral, is_point, scaled}
 abbrev pub has_places : ℕ → List ℕ → Bool
 has_places places digits = if list_any is_point digits then nat_lt 0 (length (after_first is_point digits)) && nat_le (length (after_first is_point digits)) places else nat_lt 0 (length digits)
 
--- digits of at most so many places and nothing else, which write a number up to 2 ^ 63
+-- digits of at most this many places and nothing else, which write a number up to 2 ^ 63
 abbrev pub is_magnitude : ℕ → List ℕ → Bool
 is_magnitude places digits = is_numeral places digits && nat_le (digits_value 10 (scaled places digits)) (2 ^ 63)
 

@@ -17,7 +17,7 @@ without_spaces bytes = slice_range bytes (prefix_len is_space bytes) (length byt
 abbrev pub is_point : ℕ → Bool
 is_point byte = byte == 46
 
--- digits without their point, and with a zero for each decimal that is missing to so many places
+-- digits without their point, and with a zero for each decimal that is missing to this many places
 abbrev pub scaled : ℕ → List ℕ → List ℕ
 scaled places digits = before_first is_point digits ++ (after_first is_point digits ++ replicate (places - length (after_first is_point digits)) 48)
 
@@ -42,7 +42,7 @@ fits_64_bits n = int_le (negsuc (2 ^ 63 - 1)) n && int_le n (pos (2 ^ 63 - 1))
 unfoldable pub number_of : ℕ → List ℕ → Option ℤ
 number_of places text = if is_numeral places (without_leading_sign text) && fits_64_bits (units_of places text) then Some (units_of places text) else None
 
--- the number of a field, if it is one of at most so many places: spaces, an optional sign, digits, spaces
+-- the number of a field, if it is one of at most this many places: spaces, an optional sign, digits, spaces
 abbrev pub decimal_of : ℕ → List ℕ → Option ℤ
 decimal_of places field = number_of places (without_spaces field)
 

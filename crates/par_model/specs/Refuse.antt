@@ -44,7 +44,7 @@ reads_numbers kind.Min = true
 reads_numbers kind.Max = true
 reads_numbers kind.Avg = true
 
--- whether a field is neither null nor a number of at most so many places
+-- whether a field is neither null nor a number of at most this many places
 abbrev pub is_no_number : ℕ → List ℕ → Bool
 is_no_number places field = not (is_null field) && is_none (decimal_of places field)
 

@@ -39,7 +39,7 @@ table_header plan = plan.groups ++ map item_text plan.items
 abbrev pub or_null : ℕ → List ℕ → List ℕ
 or_null count text = if count == 0 then [] else text
 
--- what an aggregate of numbers with so many places prints for a group that has this many rows; an average has four more
+-- what an aggregate of numbers with these places prints for a group that has this many rows; an average has four more
 abbrev pub value_text : ItemKind → ℕ → ℕ → SlotState → List ℕ
 value_text kind.Rows places rows slot = decimal rows
 value_text kind.Count places rows slot = decimal slot.count

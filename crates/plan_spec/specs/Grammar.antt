@@ -75,7 +75,7 @@ relation_in text =
     else (if slice_index text 0 == 60 then Some (op.Less, drop 1 text)
     else (if slice_index text 0 == 62 then Some (op.Greater, drop 1 text) else None)))))
 
--- a number with so many places and no space around it
+-- a number with this many places and no space around it
 abbrev pub bare_number_in : ℕ → List ℕ → Option ℤ
 bare_number_in places text = if list_any (λ byte. byte == 32) text then None else decimal_of places text
 

@@ -30,7 +30,7 @@ pub struct Region {
     place: Place,
 }
 
-/// Where a region's table lies: in memory of its own, or in memory that was given to it for good.
+/// Where a region's table lies: in memory that it allocated, or in memory that was given to it for good.
 #[derive(Drop)]
 pub(crate) enum Place {
     /// Its own memory, which is freed with it.

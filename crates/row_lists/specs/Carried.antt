@@ -52,7 +52,7 @@ row_bytes row = length row.key ∷ (row.key ++ length row.values ∷ values_byte
 
 -- ---- from bytes
 
--- so many values that bytes begin with, and what comes after them
+-- this many values that bytes begin with, and what comes after them
 unfoldable pub values_in : ℕ → ℤ → List ℕ → List (Option ℤ)
 values_in zero last bytes = []
 values_in (suc count) last [] = []

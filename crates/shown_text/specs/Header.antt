@@ -8,7 +8,7 @@ use Rattle.shown_text.specs.declared.header.TheConstants.{MOST_FIELDS}
 abbrev pub field_text : List ℕ → List ℕ
 field_text field = codes " " ++ shown_text field
 
--- what comes after the fields that are named, of so many: two points if there are more
+-- what comes after the fields that are named, of this many: two points if there are more
 abbrev pub rest_text : ℕ → List ℕ
 rest_text width = if nat_lt MOST_FIELDS width then codes " .." else []
 

@@ -4,7 +4,7 @@ use Rattle.std.specs.Char.{is_ascii_whitespace}
 use Rattle.std.specs.List.{list_all, list_any}
 use Rattle.shown_text.specs.Shown.{shown_text}
 
--- what a field is not that is no number of at most so many places
+-- what a field is not that is no number of at most this many places
 abbrev pub kind_text : ℕ → List ℕ
 kind_text zero = codes " is not an integer: "
 kind_text (suc zero) = codes " is not a decimal with at most 1 place: "
@@ -29,6 +29,6 @@ abbrev pub help_text : ℕ → List ℕ → List ℕ
 help_text places field = if list_any is_digit field then digits_help places field
     else (if list_all is_ascii_whitespace field then codes "; see --trim" else codes "; see --null")
 
--- a field of a column that is no number of at most so many places
+-- a field of a column that is no number of at most this many places
 abbrev pub number_text : List ℕ → ℕ → List ℕ → List ℕ
 number_text name places field = codes "column " ++ (shown_text name ++ (kind_text places ++ (shown_text field ++ help_text places field)))

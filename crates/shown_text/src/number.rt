@@ -9,7 +9,7 @@ use crate::escaped::put_shown;
 use crate::width::put_number;
 use std::alloc::{AllocError, Global};
 
-/// What a line says of a field that is no number of at most so many places, with the name of its column: both as
+/// What a line says of a field that is no number of at most this many places, with the name of its column: both as
 /// [`shown`](crate::shown) makes them; and, if the field is of such a form, what may help. It takes at most 430 bytes.
 pub fn number_text(
     alloc: Global,
@@ -27,7 +27,7 @@ pub fn number_text(
     Ok(text)
 }
 
-/// Puts what a field is not that is no number of at most so many places.
+/// Puts what a field is not that is no number of at most this many places.
 fn put_kind(text: &mut String, places: u32) -> Result<(), AllocError>
     ensures { IfOk result (λ _. string_bytes text.new ≡ string_bytes text.old ++ kind_text places) }
 {

@@ -5,7 +5,7 @@ ghost use Rattle.shown_text.specs.Width.{width_text};
 
 use std::alloc::{AllocError, Global};
 
-/// What a line says of a row of so many fields under a header of another number of them. It takes at most 80 bytes.
+/// What a line says of a row of this many fields under a header of another number of them. It takes at most 80 bytes.
 pub fn width_text(alloc: Global, fields: u32, header: u32) -> Result<String, AllocError>
     ensures { IfOk result (λ text. string_bytes text ≡ width_text fields header) }
 {

@@ -32,7 +32,7 @@ groups_in words = parts_given (value_of (codes "--group") words)
 abbrev pub items_in : List (List ℕ) → List (List ℕ)
 items_in words = parts_given (value_of (codes "--agg") words)
 
--- the column of an item's place, or of a key's, after so many keys
+-- the column of an item's place, or of a key's, after this many keys
 abbrev pub column_by : ℕ → Option ℕ → Option ℕ → Option Column
 column_by keys (Some item) key = Some (record { at = keys + item; is_item = true })
 column_by keys None (Some key) = Some (record { at = key; is_item = false })

@@ -158,7 +158,7 @@ fn direction_of(text: &[u8]) -> (&[u8], bool)
     }
 }
 
-/// A text without so many bytes at its end.
+/// A text without this many bytes at its end.
 fn without_end(text: &[u8], size: usize) -> &[u8]
     ensures { result.now ≡ without_end text.entry.now size }
 {

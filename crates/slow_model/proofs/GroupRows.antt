@@ -48,7 +48,7 @@ module _ (p : List (List ℕ) → Bool) (column : ℕ) where
   values_next rows i row within is =
       values_more rows i row within ∙ ap (λ (r : List (List ℕ)). length (values (take i rows)) + cond (p r && not (is_null (field_of r column))) 1 0) (sym is)
 
-  -- as numbers with so many places
+  -- as numbers with this many places
   module _ (places : ℕ) where
     abbrev pub numbers : List (List (List ℕ)) → List ℤ
     numbers rows = filter_map (decimal_of places) (values rows)

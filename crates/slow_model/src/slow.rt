@@ -43,7 +43,7 @@ pub fn slow_refusal(row: &Row, width: u32, plan: &BoundPlan) -> Option<Refusal>
     })
 }
 
-/// Whether a field is neither null nor a number with so many places.
+/// Whether a field is neither null nor a number with this many places.
 fn is_no_number(field: &[u8], places: u32) -> bool
     ensures { result ≡ is_no_number places field.now }
 {

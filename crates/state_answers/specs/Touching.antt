@@ -25,7 +25,7 @@ touching above (word ∷ words) = record { above = above; below = word } ∷ tou
 abbrev pub columns_by : Job → ℕ
 columns_by j = length (bound_plan (header_of j.query.reading j.subject) j.query.plan).groups
 
--- words that name keys of so many columns, each after the one before it
+-- words that name keys of this many columns, each after the one before it
 pub record NameRisingKeys (columns : ℕ) (words : List (List ℕ)) : Type 0 where
   pub cuts : List (List ℕ)
   pub are : AllZip (IsEndOf columns) words cuts

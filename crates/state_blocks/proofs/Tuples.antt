@@ -46,7 +46,7 @@ tuple_written kinds bytes more g e = e
 abbrev pub Wrote : ℕ → List Bool → List Group → List ℕ → Type 0
 Wrote columns kinds all more = All (IsTuple columns kinds) all × (more ≡ [])
 
--- so many groups are read, each of at least one byte
+-- this many groups are read, each of at least one byte
 pub record IsBlockTo (columns : ℕ) (kinds : List Bool) (bytes rest : List ℕ) (at : ℕ) : Type 0 where
   pub found : List Group
   pub so_far : IsReadTo (tuple_bytes kinds) (All (IsTuple columns kinds)) (Wrote columns kinds) bytes found rest

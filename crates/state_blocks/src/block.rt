@@ -14,7 +14,7 @@ use state_groups::read_group;
 /// How many bytes a section's checksum has.
 const SUM_BYTES: usize = 4;
 
-/// How many groups these bytes are, each with a key of so many columns and a slot for each kind, or how many they begin with if
+/// How many groups these bytes are, each with a key of this many columns and a slot for each kind, or how many they begin with if
 /// they go on with no group.
 pub fn read_block(bytes: &[u8], columns: u32, kinds: &[bool]) -> Result<u64, u64>
     requires { length kinds.now ≤ 8 }

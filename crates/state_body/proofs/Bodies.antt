@@ -51,7 +51,7 @@ pub record Wrote (columns : ℕ) (kinds : List Bool) (parts : List (List ℕ)) (
 abbrev pub AnyParts : List (List ℕ) → Type 0
 AnyParts parts = Unit {0}
 
--- so many blocks are read
+-- this many blocks are read
 pub record IsBodyTo (columns : ℕ) (kinds : List Bool) (bytes : List ℕ) (old index : Index) (rest : List ℕ) (at : ℕ) : Type 0 where
   pub parts : List (List ℕ)
   pub blocks : List (List Group)

@@ -17,7 +17,7 @@ pub record HasNoBlock (columns : ℕ) (kinds : List Bool) (bytes : List ℕ) (wh
   pub is : bytes ≡ blocks_bytes kinds blocks ++ rest
   pub none : IsNoSection (2 ^ 20) rest why
 
--- these bytes, before which there are so many groups, have none of this number that rows can give; the first of all is 1
+-- these bytes, before which there are this many groups, have none of this number that rows can give; the first of all is 1
 pub record HasNoGroup (columns : ℕ) (kinds : List Bool) (part : List ℕ) (before number : ℕ) : Type 0 where
   pub count : ℕ
   pub stops : StopsAfter columns kinds part count
@@ -42,7 +42,7 @@ IsNoPart bytes OtherFoot = ⊥
 IsNoPart bytes Cut = ⊥
 IsNoPart bytes End = ⊥
 
--- why the bytes of a section, before which there are so many groups, are no block
+-- why the bytes of a section, before which there are this many groups, are no block
 abbrev pub IsNoBlock : ℕ → List Bool → List ℕ → ℕ → BodyFault → Type 0
 IsNoBlock columns kinds part before Memory = Unit {0}
 IsNoBlock columns kinds part before (Block why) = ⊥

@@ -142,7 +142,7 @@ fn take_block(index: &mut Index, part: &[u8], columns: u32, kinds: &[bool]) -> R
     }
 }
 
-/// How many groups the bytes of a block are, before which there are so many.
+/// How many groups the bytes of a block are, before which there are this many.
 fn count_groups(part: &[u8], columns: u32, kinds: &[bool], before: u64) -> Result<u64, BodyFault>
     requires kinds { length kinds.now ≤ 8 }
     requires before { before + length part.now + 1 < 2 ^ 64 }

@@ -35,7 +35,7 @@ impl Index {
         }
     }
 
-    /// Takes in a block of so many groups and bytes, the first group of which has this key.
+    /// Takes in a block of this many groups and bytes, the first group of which has this key.
     pub fn add(&mut self, first: &[u8], groups: u64, bytes: u64) -> Result<(), AllocError>
         requires at { self.old.at + bytes + 8 < 2 ^ 64 }
         requires blocks { self.old.blocks + 1 < 2 ^ 64 }

@@ -45,7 +45,7 @@ abbrev pub AreWholeFrom : ℕ → List Stretch → Type 0
 AreWholeFrom source [] = Unit {0}
 AreWholeFrom source (s ∷ more) = IsWhole source s × AreWholeFrom (source + 1) more
 
--- all of so many sources
+-- all of this many sources
 abbrev pub AreWhole : ℕ → List Stretch → Type 0
 AreWhole sources cover = AreWholeFrom 0 cover × (length cover ≡ sources)
 
@@ -66,7 +66,7 @@ pub record IsGap (source : ℕ) (stretches : List Stretch) (gap : Missing) : Typ
   pub none : (at : ℕ) → IsWithin gap.from gap.to at → had source at stretches ≡ 0
   pub before : (at : ℕ) → at < gap.from → 1 ≤ had source at stretches
 
--- the first bytes that a cover of so many sources lacks, of the first source that it does not have as a whole
+-- the first bytes that a cover of this many sources lacks, of the first source that it does not have as a whole
 pub record IsMissing (sources : ℕ) (cover : List Stretch) (gap : Missing) : Type 0 where
   pub front : List Stretch
   pub rest : List Stretch

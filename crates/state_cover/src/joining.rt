@@ -156,7 +156,7 @@ fn joined_rows(rows: Rows, more: Rows) -> Option<Rows>
     }
 }
 
-/// So many rows, and those after them, unless they are too many.
+/// This many rows, and those after them, unless they are too many.
 fn add_rows(rows: u64, more: Rows) -> Option<Rows>
     requires rows { rows ≤ 2 ^ 50 }
     requires more { AreRows more }

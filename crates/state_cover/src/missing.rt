@@ -15,7 +15,7 @@ pub struct Missing {
     pub to: Option<u64>,
 }
 
-/// The first bytes of so many sources that a cover lacks. It costs one step for each source.
+/// The first bytes of this many sources that a cover lacks. It costs one step for each source.
 pub fn missing_bytes(cover: &[Stretch], sources: u32) -> Option<Missing>
     requires { IsCover sources cover.now }
     ensures none { IfNone result (AreWhole sources cover.now) }

@@ -16,7 +16,7 @@ abbrev pub folded : ℤ → ℕ
 folded (pos n) = 2 * n
 folded (negsuc n) = 2 * n + 1
 
--- bytes go on with the digits of a number above so many low bits, and there are some: `worth` is what the first of them counts
+-- bytes go on with the digits of a number above this many low bits, and there are some: `worth` is what the first of them counts
 pub record GoesOnAs (bytes : List ℕ) (low worth more n : ℕ) (rest : List ℕ) : Type 0 where
   pub high : ℕ
   pub some : 0 < high

@@ -33,7 +33,7 @@ pub record HasOtherSum (bytes : List ℕ) : Type 0 where
   pub is : bytes ≡ section_with part sum ++ rest
   pub other : sum ≢ crc32c part
 
--- why bytes begin with no section of at most so many bytes
+-- why bytes begin with no section of at most this many bytes
 abbrev pub IsNoSection : ℕ → List ℕ → SectionRead → Type 0
 IsNoSection most bytes Short = (length bytes < 4) ⊎ EndsWithin bytes
 IsNoSection most bytes (Long size) = BeginsWith size bytes × (most < size)

@@ -73,7 +73,7 @@ fn eight_in(slices: &[u32; ENTRIES], register: u32, eight: &[u8; 8]) -> u32
         ^ entry(slices, 7, word)
 }
 
-/// What eight bits and so many bytes more make of the lowest byte of a word.
+/// What eight bits and this many bytes more make of the lowest byte of a word.
 fn entry(slices: &[u32; ENTRIES], more: usize, word: u64) -> u32
     requires slices { AreSlices slices.now }
     requires more { more < 8 }

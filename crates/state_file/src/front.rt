@@ -1,4 +1,4 @@
-//! What some bytes begin with: so many bytes, or a number of four, the lowest byte first.
+//! What some bytes begin with: this many bytes, or a number of four, the lowest byte first.
 //!
 //! Each reader gives what it read and the bytes after it, and None only if the bytes end before. What was written in front
 //! of some bytes is what is read, so readers one after another read what was written one after another.

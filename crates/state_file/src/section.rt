@@ -55,7 +55,7 @@ pub fn read_section(bytes: &[u8], most: u32) -> Result<(&[u8], &[u8]), SectionRe
     Ok((part, rest))
 }
 
-/// So many bytes, the number in four bytes after them, and the bytes after that.
+/// This many bytes, the number in four bytes after them, and the bytes after that.
 fn read_sum(bytes: &[u8], size: u32) -> Option<(&[u8], u32, &[u8])>
     ensures read { IfSome result (λ found. (bytes.now ≡ found.0.now ++ (to_le_bytes w32 found.1 ++ found.2.now)) × (length found.0.now ≡ size)) }
     ensures written { (part rest : List ℕ) (sum : ℕ) → length part ≡ size → sum < 2 ^ 32 → bytes.now ≡ part ++ (to_le_bytes w32 sum ++ rest)

@@ -34,7 +34,7 @@ pub fn push_text(out: &mut Vec<u8>, text: &[u8]) -> Result<(), AllocError>
     Ok(())
 }
 
-/// The text, of at most so many bytes, that some bytes begin with, and the bytes after it.
+/// The text, of at most this many bytes, that some bytes begin with, and the bytes after it.
 pub fn read_text(bytes: &[u8], most: u64) -> Option<(&[u8], &[u8])>
     ensures read { IfSome result (λ found. (bytes.now ≡ text_bytes found.0.now ++ found.1.now) × (length found.0.now ≤ most)) }
     ensures written { (text rest : List ℕ) → length text ≤ most → bytes.now ≡ text_bytes text ++ rest → MatchOption result ⊥ (λ found. (found.0.now ≡ text) × (found.1.now ≡ rest)) }

@@ -22,7 +22,7 @@ abbrev pub ComesTo : NamedPlan → Plan → GroupsByKey → List Stretch → Fin
 ComesTo names plan m cover (Table pieces) = All IsCounted cover × IsTextOf names plan (listed m) (joined pieces.items)
 ComesTo names plan m cover (Refused row) = IsFirstRefused cover row
 
--- the stretches of all files are all bytes of so many sources, each once, and this is what they come to
+-- the stretches of all files are all bytes of this many sources, each once, and this is what they come to
 pub record IsFinished (names : NamedPlan) (plan : Plan) (sources : ℕ) (m : GroupsByKey) (stretches : List Stretch) (f : Finished) : Type 0 where
   pub cover : List Stretch
   pub is_whole : IsWholeCover sources stretches cover

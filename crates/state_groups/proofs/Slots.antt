@@ -12,7 +12,7 @@ use Rattle.state_groups.specs.Slot.{IsOfIntegers, IsSlot, has_integers, integers
 abbrev pub after_count : Bool → SlotState → List ℕ
 after_count integers slot = if has_integers integers slot.count then integers_bytes slot else []
 
--- a slot of so many values without integers
+-- a slot of this many values without integers
 abbrev pub only : ℕ → SlotState
 only count = record no_values { count = count }
 

@@ -13,7 +13,7 @@ spread slot = unsigned_abs (slot.greatest -ℤ slot.least)
 abbrev pub integers_bytes : SlotState → List ℕ
 integers_bytes slot = number_bytes (folded slot.sum) ++ (number_bytes (folded slot.least) ++ number_bytes (spread slot))
 
--- whether a slot of so many values has integers to write
+-- whether a slot of this many values has integers to write
 abbrev pub has_integers : Bool → ℕ → Bool
 has_integers integers count = integers && nat_lt 0 count
 

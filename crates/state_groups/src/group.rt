@@ -1,6 +1,6 @@
 //! A group as bytes: its key, the number of its rows, and its slots.
 //!
-//! Nothing that is read is taken on trust: the key has to be the encoding of so many columns, and the numbers such as rows
+//! Nothing that is read is taken on trust: the key has to be the encoding of this many columns, and the numbers such as rows
 //! can give. The key is lent where it lies.
 
 ghost use Rattle.std.specs.Prelude.{◌≡◌, ◌<◌, ◌≤◌, ◌^◌, ◌++◌, ℕ, List, IfSome, IsTrue, MatchOption, OnOk, length, take};
@@ -86,7 +86,7 @@ pub fn read_group<'a>(
     }
 }
 
-/// The key, an encoding of so many columns, that some bytes begin with, and the bytes after it.
+/// The key, an encoding of this many columns, that some bytes begin with, and the bytes after it.
 fn read_key(bytes: &[u8], columns: u32) -> Option<(&[u8], &[u8])>
     ensures read { IfSome result (λ found. (bytes.now ≡ text_bytes found.0.now ++ found.1.now) × IsKey columns found.0.now) }
     ensures written { (key rest : List ℕ) → IsKey columns key → bytes.now ≡ text_bytes key ++ rest → MatchOption result ⊥ (λ found. (found.0.now ≡ key) × (found.1.now ≡ rest)) }
@@ -103,7 +103,7 @@ fn read_key(bytes: &[u8], columns: u32) -> Option<(&[u8], &[u8])>
     }
 }
 
-/// Whether these bytes, which are no longer than a key may be, are the encoding of so many columns.
+/// Whether these bytes, which are no longer than a key may be, are the encoding of this many columns.
 fn is_encoded(key: &[u8], columns: u32) -> bool
     requires { length key.now ≤ LONGEST_KEY }
     ensures key { IsTrue result → IsKey columns key.now }

@@ -26,7 +26,7 @@ pub fn push_slot(out: &mut Vec<u8>, integers: bool, slot: &SlotState) -> Result<
     }
 }
 
-/// Whether a slot of so many values, of a column whose integers are read or not, has integers to write.
+/// Whether a slot of this many values, of a column whose integers are read or not, has integers to write.
 fn has_integers(integers: bool, count: u64) -> bool
     ensures { result ≡ has_integers integers count }
 {
@@ -49,7 +49,7 @@ fn spread(slot: &SlotState) -> u128
     (i128::from(slot.greatest) - i128::from(slot.least)).unsigned_abs()
 }
 
-/// The slot that some bytes begin with, if at most so many rows can have given it, and the bytes after it.
+/// The slot that some bytes begin with, if at most this many rows can have given it, and the bytes after it.
 pub fn read_slot(bytes: &[u8], integers: bool, rows: u64) -> Option<(SlotState, &[u8])>
     requires few { rows ≤ 2 ^ 50 }
     ensures read { IfSome result (λ found. (bytes.now ≡ slot_bytes integers found.0 ++ found.1.now) × IsSlot integers rows found.0) }
@@ -68,14 +68,14 @@ pub fn read_slot(bytes: &[u8], integers: bool, rows: u64) -> Option<(SlotState, 
     }
 }
 
-/// A slot of so many values, without integers.
+/// A slot of this many values, without integers.
 fn only_count(count: u64) -> SlotState
     ensures { result ≡ record no_values { count = count } }
 {
     SlotState { count, ..NO_VALUES }
 }
 
-/// A slot of so many integers, whose sum, least and spread some bytes begin with, and the bytes after it.
+/// A slot of this many integers, whose sum, least and spread some bytes begin with, and the bytes after it.
 fn read_integers(bytes: &[u8], count: u64) -> Option<(SlotState, &[u8])>
     requires { count ≤ 2 ^ 50 }
     ensures read { IfSome result (λ found. (bytes.now ≡ integers_bytes found.0 ++ found.1.now) × IsOfIntegers found.0 × (found.0.count ≡ count)) }

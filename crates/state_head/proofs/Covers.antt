@@ -23,11 +23,11 @@ stretches-pop : (sources : ℕ) (before : Option Place) (found : List Stretch) (
 stretches-pop sources before [] s later are = are.0
 stretches-pop sources before (f ∷ found) s later are = stretches-pop sources (Some f.place) found s later are.1
 
--- so many stretches were written
+-- this many stretches were written
 abbrev pub Wrote : ℕ → ℕ → List Stretch → List ℕ → Type 0
 Wrote sources count all more = AreStretches sources None all × (length all ≡ count)
 
--- so many stretches of a cover are read, and the last one is at this place
+-- this many stretches of a cover are read, and the last one is at this place
 pub record IsCoverTo (sources count : ℕ) (bytes : List ℕ) (found : List Stretch) (before : Option Place) (rest : List ℕ) (at : ℕ) : Type 0 where
   pub so_far : IsReadTo stretch_bytes (AreStretches sources None) (Wrote sources count) bytes found rest
   pub last : before ≡ place_after None found

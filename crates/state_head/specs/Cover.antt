@@ -30,7 +30,7 @@ pub record FitsPlace (p : Place) : Type 0 where
   pub to : p.to < 2 ^ 64
   pub size : p.size < 2 ^ 64
 
--- a place of one of so many sources, within it; it has no bytes only if the source has none
+-- a place of one of this many sources, within it; it has no bytes only if the source has none
 pub record IsPlace (sources : ℕ) (p : Place) : Type 0 where
   pub source : p.source < sources
   pub order : p.from ≤ p.to
@@ -46,7 +46,7 @@ pub record IsRefusedRow (why : RefusedRow) : Type 0 where
   pub few : why.cause ≤ 4
   pub item : why.item < 8
 
--- so many rows, or a refused one
+-- this many rows, or a refused one
 abbrev pub AreRows : Rows → Type 0
 AreRows (Counted rows) = rows ≤ 2 ^ 50
 AreRows (Refused why) = IsRefusedRow why
@@ -69,7 +69,7 @@ abbrev pub AreStretches : ℕ → Option Place → List Stretch → Type 0
 AreStretches sources before [] = Unit {0}
 AreStretches sources before (s ∷ more) = IsNext sources before s × AreStretches sources (Some s.place) more
 
--- the cover of a file of some of so many sources
+-- the cover of a file of some of this many sources
 pub record IsCover (sources : ℕ) (cover : List Stretch) : Type 0 where
   pub stretches : AreStretches sources None cover
   pub few : length cover < 2 ^ 32

@@ -86,7 +86,7 @@ fn push_rows(out: &mut Vec<u8>, rows: Rows) -> Result<(), AllocError>
     }
 }
 
-/// The stretch of one of so many sources that some bytes begin with, and the bytes after it.
+/// The stretch of one of this many sources that some bytes begin with, and the bytes after it.
 pub fn read_stretch(bytes: &[u8], sources: u32) -> Option<(Stretch, &[u8])>
     ensures read { IfSome result (λ found. (bytes.now ≡ stretch_bytes found.0 ++ found.1.now) × IsStretch sources found.0) }
     ensures written { (s : Stretch) (rest : List ℕ) → IsStretch sources s → bytes.now ≡ stretch_bytes s ++ rest → MatchOption result ⊥ (λ found. (found.0 ≡ s) × (found.1.now ≡ rest)) }
@@ -100,7 +100,7 @@ pub fn read_stretch(bytes: &[u8], sources: u32) -> Option<(Stretch, &[u8])>
     }
 }
 
-/// The place in one of so many sources that some bytes begin with, and the bytes after it.
+/// The place in one of this many sources that some bytes begin with, and the bytes after it.
 fn read_place(bytes: &[u8], sources: u32) -> Option<(Place, &[u8])>
     ensures read { IfSome result (λ found. (bytes.now ≡ place_bytes found.0 ++ found.1.now) × IsPlace sources found.0) }
     ensures written { (p : Place) (rest : List ℕ) → IsPlace sources p → bytes.now ≡ place_bytes p ++ rest → MatchOption result ⊥ (λ found. (found.0 ≡ p) × (found.1.now ≡ rest)) }
@@ -145,7 +145,7 @@ fn read_numbers(bytes: &[u8]) -> Option<(Place, &[u8])>
     }
 }
 
-/// Whether a place lies in one of so many sources, and has no bytes only if its source has none.
+/// Whether a place lies in one of this many sources, and has no bytes only if its source has none.
 fn is_place(p: Place, sources: u32) -> bool
     ensures { IsTrue result ↔ IsPlace sources p }
 {

@@ -25,7 +25,7 @@ pub fn push_cover(out: &mut Vec<u8>, cover: &[Stretch]) -> Result<(), AllocError
     Ok(())
 }
 
-/// The cover of some of so many sources that some bytes begin with, and the bytes after it. It takes memory for its stretches.
+/// The cover of some of this many sources that some bytes begin with, and the bytes after it. It takes memory for its stretches.
 pub fn read_cover<'a>(
     alloc: Global,
     bytes: &'a [u8],
@@ -52,7 +52,7 @@ pub fn read_cover<'a>(
     Ok(Some((cover, rest)))
 }
 
-/// The stretch of one of so many sources that some bytes begin with, if it can come after this place, and the bytes after it.
+/// The stretch of one of this many sources that some bytes begin with, if it can come after this place, and the bytes after it.
 fn read_next<'a>(
     bytes: &'a [u8],
     sources: u32,

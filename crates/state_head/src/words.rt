@@ -87,7 +87,7 @@ fn push_pair(out: &mut Vec<u8>, a: &[u8], b: &[u8]) -> Result<(), AllocError>
     push_text(out, b)
 }
 
-/// The two texts, of at most so many bytes each, that some bytes begin with, and the bytes after them.
+/// The two texts, of at most this many bytes each, that some bytes begin with, and the bytes after them.
 fn read_pair(bytes: &[u8], most: u64) -> Option<(&[u8], &[u8], &[u8])>
     ensures read { IfSome result (λ found. (bytes.now ≡ pair_bytes found.0.now found.1.now ++ found.2.now) × (length found.0.now ≤ most) × (length found.1.now ≤ most)) }
     ensures written { (a b rest : List ℕ) → length a ≤ most → length b ≤ most → bytes.now ≡ pair_bytes a b ++ rest

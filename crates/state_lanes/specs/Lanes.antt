@@ -9,7 +9,7 @@ use Rattle.par_model.specs.declared.state.SlotState.{SlotState}
 use Rattle.state_lanes.specs.declared.lanes.Lane.{Lane}
 use Rattle.state_lanes.specs.declared.lanes.Lane.TheVariants.{Numbers, Values}
 
--- the lane of an aggregate of this kind over a column whose numbers have so many places: a count of rows has none
+-- the lane of an aggregate of this kind over a column whose numbers have this many places: a count of rows has none
 abbrev pub lane_by : ItemKind → ℕ → ℕ → Option Lane
 lane_by kind.Rows column places = None
 lane_by kind.Count column places = Some (Values column)

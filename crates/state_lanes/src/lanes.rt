@@ -9,7 +9,7 @@ ghost use Rattle.state_lanes.specs.Lanes.{has_lane, has_numbers, is_same, kinds_
 use par_model::{Item, ItemKind};
 use std::alloc::{AllocError, Global};
 
-/// A column as an aggregate reads it: the values are only counted, or they are numbers with so many digits after the point.
+/// A column as an aggregate reads it: the values are only counted, or they are numbers with this many digits after the point.
 #[derive(Clone, Copy, Debug, PartialEq, Eq)]
 pub enum Lane {
     Values { column: u32 },

@@ -28,7 +28,7 @@ pub record IsFirstRow (plan : Plan) (width : ℕ) (rows : Table) (why : RefusedR
   pub others : List (ℕ × Refusal)
   pub is : refused_rows plan width rows ≡ (why.row, record { cause = why.cause; item = why.item }) ∷ others
 
--- rows are so many, and none is refused; or this is the first refused one
+-- rows are this many, and none is refused; or this is the first refused one
 abbrev pub AreTold : Plan → ℕ → Table → Rows → Type 0
 AreTold plan width rows (Counted many) = (many ≡ length rows) × (refused_rows plan width rows ≡ [])
 AreTold plan width rows (Refused why) = IsFirstRow plan width rows why

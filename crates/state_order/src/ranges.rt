@@ -7,7 +7,7 @@ ghost use Rattle.state_order.specs.Ranges.{is_before, is_below, is_from, is_with
 use result_text::compare_columns;
 use state_head::KeyRange;
 
-/// Whether a key of so many columns lies within a range. It costs at most two comparisons.
+/// Whether a key of this many columns lies within a range. It costs at most two comparisons.
 pub fn is_within(range: KeyRange<'_>, key: &[u8], columns: u32) -> bool
     ensures { result ≡ is_within columns (keys_of range.entry) key.now }
 {

@@ -2,7 +2,7 @@
 use Rattle.std.specs.Prelude.{◌≡◌, ◌+◌, ℕ, List, Option, length}
 use Rattle.std.specs.Io.KnownBytes.{Consumes, IsAtEnd}
 
--- after so many bytes it gave others, to its end: together they are so many
+-- after this many bytes it gave others, to its end: together they are this many
 pub record IsDrained (old new : Option (List ℕ)) (given size : ℕ) : Type 0 where
   pub more : List ℕ
   pub gives : Consumes old new more

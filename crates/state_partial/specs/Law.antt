@@ -20,7 +20,7 @@ pub record AreFrom (reading : Reading) (header : List (List ℕ)) (from : ℕ) (
   pub last : EndsInRecord line
   pub ends : IsLineEnd line_end
 
--- A source of this text with commas brings what the words say: all of it; or, for a tile of so many bytes as it has, all of it from its
+-- A source of this text with commas brings what the words say: all of it; or, for a tile of this many bytes as it has, all of it from its
 -- front on, or else the line of its header and what comes from the place on
 abbrev pub IsBrought : Reading → List (List ℕ) → Extent → List ℕ → List ℕ → Type 0
 IsBrought reading header extent.Whole text bytes = bytes ≡ text

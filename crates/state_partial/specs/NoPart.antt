@@ -104,7 +104,7 @@ IsStopOf words left (stop.Refused r) = ⊥
 IsStopOf words left stop.WriteFault = ⊤
 IsStopOf words left stop.Memory = ⊤
 
--- a reason is one of these words and these bytes; so many reads failed since the source had ended before its size
+-- a reason is one of these words and these bytes; this many reads failed since the source had ended before its size
 abbrev pub IsNoPart : List (List ℕ) → Option (List ℕ) → ℕ → NoPart → Type 0
 IsNoPart words left lacks no_part.Usage = AskForNone words
 IsNoPart words left lacks (no_part.Untaken option) = (asked_in words ≡ None) × (untaken_in words ≡ Some option)

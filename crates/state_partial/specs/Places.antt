@@ -38,7 +38,7 @@ abbrev pub tile_from : ℕ → ℕ → ℕ
 tile_from zero at = 0
 tile_from (suc from) at = at
 
--- a tile of so many bytes ends behind them, wherever it was to end
+-- a tile of this many bytes ends behind them, wherever it was to end
 abbrev pub tile_place : ℕ → Span → Begin → ℕ → Place
 tile_place source span b count = record { source = source; from = tile_from span.from b.at; to = b.at + count; size = span.size }
 

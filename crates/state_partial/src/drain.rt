@@ -11,7 +11,7 @@ use stream_groups::Stop;
 /// How many bytes are read at once.
 const PIECE: usize = 65_536;
 
-/// Reads what is left of a source, which gave so many bytes, and says how many it gave in all.
+/// Reads what is left of a source, which gave this many bytes, and says how many it gave in all.
 pub(crate) fn drain<S: Source>(source: &mut S, given: u64) -> Result<u64, Stop>
     ensures size { IfOk result (IsDrained (S.left source.old) (S.left source.new) given) }
     ensures read_fault { IfErr result (λ why. why ≡ stop.ReadFault → Rose (S.faults source.old) (S.faults source.new)) }

@@ -54,7 +54,7 @@ pub(crate) fn place_of(source: u32, extent: Extent, begin: Begin, size: u64) -> 
     }
 }
 
-/// The place of a tile that has so many bytes after its beginning.
+/// The place of a tile that has this many bytes after its beginning.
 fn tile_place(source: u32, span: Span, begin: Begin, count: u64) -> Option<Place>
     ensures place { IfSome result (IsPlaceOfTile source span begin count) }
     ensures within { IfSome result (IsWithin source) }

@@ -199,7 +199,7 @@ fn extent_given(bytes: Option<&str>, size: Option<&str>) -> Option<Extent>
     }
 }
 
-/// The bytes `FROM-TO`, or those from `FROM` on, of a source of so many.
+/// The bytes `FROM-TO`, or those from `FROM` on, of a source of this many.
 fn span_of(bytes: &str, size: &str) -> Option<Span>
     ensures { result ≡ span_in bytes.now size.now }
 {

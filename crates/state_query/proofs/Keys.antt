@@ -25,7 +25,7 @@ use Rattle.state_whole.specs.Adding.{state_of, sum_with, with_group}
 use Rattle.state_whole.specs.Files.{StateFile, tuples_in}
 use Rattle.state_whole.specs.declared.adding.Shape.{Shape}
 
--- each key of a map is the encoding of so many columns
+-- each key of a map is the encoding of this many columns
 HaveKeys : ℕ → GroupsByKey → Type 0
 HaveKeys count m = (key : List ℕ) (state : AggState) → map.get m key ≡ Some state → IsKeyOf count key
 

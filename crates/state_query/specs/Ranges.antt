@@ -16,7 +16,7 @@ abbrev pub IsEndOf : ℕ → List ℕ → List ℕ → Type 0
 IsEndOf columns [] key = key ≡ []
 IsEndOf columns (byte ∷ word) key = IsBoundOf columns (byte ∷ word) key
 
--- a word that is no record of so many fields
+-- a word that is no record of this many fields
 abbrev pub HasNoEnd : ℕ → List ℕ → Type 0
 HasNoEnd columns [] = ⊥
 HasNoEnd columns (byte ∷ word) = IsNoBound columns (byte ∷ word) fault.NoKey

@@ -12,7 +12,7 @@ use std::alloc::{AllocError, Global};
 /// A field of a key is shorter than this: its length has 4 bytes.
 const MOST_FIELD: usize = 1 << 32;
 
-/// Why a word is no end of a range: memory ran out, or it is no record of so many fields.
+/// Why a word is no end of a range: memory ran out, or it is no record of this many fields.
 #[derive(Clone, Copy, Debug, PartialEq, Eq)]
 pub enum BoundFault {
     Memory,
@@ -27,7 +27,7 @@ impl From<AllocError> for BoundFault {
     }
 }
 
-/// The encoded key that a word names, if it is a record of so many fields.
+/// The encoded key that a word names, if it is a record of this many fields.
 pub fn bound_key(alloc: Global, word: &[u8], columns: u32) -> Result<Vec<u8>, BoundFault>
     ensures key { IfOk result (λ key. IsBoundOf columns word.now key.items) }
 

@@ -10,7 +10,7 @@ use state_blocks::{read_first, split_block};
 use state_whole::Shape;
 use std::alloc::{AllocError, Global};
 
-/// Keys that cut the groups of a file, of which these are the blocks, into about so many parts of the same size, each key after the one
+/// Keys that cut the groups of a file, of which these are the blocks, into about this many parts of the same size, each key after the one
 /// before it: first keys of blocks. They are fewer than that if the file has few blocks.
 pub fn cuts_of(
     alloc: Global,

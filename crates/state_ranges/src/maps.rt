@@ -20,7 +20,7 @@ use state_whole::{Kept, Shape};
 use std::alloc::{AllocError, Global};
 use std::thread::{Threads, for_each_mut};
 
-/// The groups of the files so far whose keys, of so many columns, lie in one range: from its low end on and before its high end, each
+/// The groups of the files so far whose keys, of this many columns, lie in one range: from its low end on and before its high end, each
 /// empty if it has no such end.
 #[derive(Drop)]
 pub struct RangeMap {

@@ -27,7 +27,7 @@ pub struct RangeSums {
 }
 
 impl RangeSums {
-    /// No files. The ranges are about so many, of about the same size in the file that has these blocks.
+    /// No files. The ranges are about this many, of about the same size in the file that has these blocks.
     pub fn new(
         alloc: Global,
         blocks: &[u8],

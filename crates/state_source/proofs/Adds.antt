@@ -133,7 +133,7 @@ fault_after shape subject keys bytes rest m cover sum n (fault.Load at) shifted 
 
 -- ---- so far
 
--- these were read after the first bytes of a source; so many files of them all were added, and these bytes are left
+-- these were read after the first bytes of a source; this many files of them all were added, and these bytes are left
 pub record IsReadTo (shape : Shape) (subject : Subject) (keys : Keys) (was left : Option (List ℕ)) (first held : List ℕ) (old sum : Sum) (count : ℕ) : Type 0 where
   pub more : List ℕ
   pub reads : Consumes was left more

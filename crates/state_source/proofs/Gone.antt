@@ -124,7 +124,7 @@ none_wrong shape subject keys was left first before after why same comes wrong =
 
 -- ---- so far
 
--- these were read after the first bytes; so many files of them all were looked at, and all but the last one were added;
+-- these were read after the first bytes; this many files in all were looked at, and all but the last one were added;
 -- these are left
 pub record IsGone (shape : Shape) (subject : Subject) (keys : Keys) (was left : Option (List ℕ)) (first held : List ℕ) (sums : RangeSums) (seen : Seen) (count : ℕ) : Type 0 where
   pub more : List ℕ

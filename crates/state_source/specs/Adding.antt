@@ -17,7 +17,7 @@ use Rattle.state_whole.specs.Sums.{AreSummed}
 use Rattle.state_whole.specs.declared.adding.Shape.{Shape}
 use Rattle.state_whole.specs.declared.files.Sum.{Sum}
 
--- bytes begin with so many files, which were added to a sum, and these are left
+-- bytes begin with this many files, which were added to a sum, and these are left
 pub record AreFound (shape : Shape) (subject : Subject) (keys : Keys) (bytes rest : List ℕ) (m : GroupsByKey) (cover : List Stretch) (sum : Sum) (count : ℕ) : Type 0 where
   pub files : List StateFile
   pub are : AreParts shape subject keys files
@@ -31,7 +31,7 @@ IsFaultOf shape subject keys m bytes fault.ReadFault = Unit {0}
 IsFaultOf shape subject keys m bytes fault.Memory = Unit {0}
 IsFaultOf shape subject keys m bytes (fault.Load why) = AreNoParts shape subject keys m bytes why
 
--- a fault of the file with this number after so many others: its number among all, or memory, if there is no such
+-- a fault of the file with this number after this many others: its number among all, or memory, if there is no such
 -- number
 abbrev pub IsShifted : ℕ → SourceFault → SourceFault → Type 0
 IsShifted before fault.ReadFault why = why ≡ fault.ReadFault

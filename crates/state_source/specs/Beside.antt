@@ -51,7 +51,7 @@ pub record IsSeen (shape : Shape) (subject : Subject) (keys : Keys) (text rest :
   pub seen_of : IsSeenOf shape subject keys f seen
   pub is : text ≡ file_bytes shape.kinds.now f ++ rest
 
--- likewise, and it has so many bytes as the text has at least
+-- likewise, and it has this many bytes as the text has at least
 abbrev pub IsSeenIn : Shape → Subject → Keys → List ℕ → Seen → Type 0
 IsSeenIn shape subject keys bytes seen = (seen.size ≤ length bytes) × IsSeen shape subject keys bytes (drop seen.size bytes) seen
 

@@ -152,7 +152,7 @@ fn add_held(
     }
 }
 
-/// What is to be done if so many bytes begin with no file.
+/// What is to be done if this many bytes begin with no file.
 fn step_without(ended: bool, count: usize) -> Step
     ensures added { (result ≡ step.Added) → ⊥ }
     ensures ended { result ≡ step.Ended → ended ≡ true }
@@ -163,7 +163,7 @@ fn step_without(ended: bool, count: usize) -> Step
     Step::Wanted(count.saturating_mul(2).max(PIECE))
 }
 
-/// Adds the files that the last bytes of a source are, after so many others, and says how many they are in all.
+/// Adds the files that the last bytes of a source are, after this many others, and says how many they are in all.
 fn add_rest(
     alloc: Global,
     sum: &mut Sum<'_>,
@@ -190,7 +190,7 @@ fn add_rest(
     }
 }
 
-/// A fault of a file that comes after so many others.
+/// A fault of a file that comes after this many others.
 pub(crate) fn shifted(before: u64, why: SourceFault) -> SourceFault
     ensures { IsShifted before why result }
 {

@@ -37,7 +37,7 @@ pub record IsCoverOf (cover stretches : List Stretch) : Type 0 where
   pub same : IsPermutation stretches order
   pub join : IsJoinOf cover order
 
--- a cover of some stretches that has all bytes of so many sources
+-- a cover of some stretches that has all bytes of this many sources
 pub record IsWholeCover (sources : ℕ) (stretches cover : List Stretch) : Type 0 where
   pub join : IsCoverOf cover stretches
   pub is_cover : IsCover sources cover

@@ -28,7 +28,7 @@ pub struct FirstRefused {
     pub why: RefusedRow,
 }
 
-/// The cover of all of some stretches, in any order, if they have each byte of so many sources once. It sorts them; if they have,
+/// The cover of all of some stretches, in any order, if they have each byte of this many sources once. It sorts them; if they have,
 /// there is one stretch for each source.
 pub fn whole_cover(
     alloc: Global,

@@ -26,7 +26,7 @@ bound_more groups a b le all = λ k d lt.
 
 -- ---- the most rows
 
--- a group at a place before this one has so many rows
+-- a group at a place before this one has this many rows
 pub record IsAt (groups : List MapGroup) (at rows : ℕ) : Type 0 where
   pub k : ℕ
   pub before : k < at

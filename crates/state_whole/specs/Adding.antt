@@ -80,7 +80,7 @@ pub record CannotAdd (shape : Shape) (range : Keys) (groups : List Group) (why :
   pub is : groups ≡ front ++ g ∷ rest
   pub none : IsNoMore shape range front g why
 
--- a group has so many rows
+-- a group has this many rows
 pub record HasRows (rows : ℕ) (groups : List MapGroup) : Type 0 where
   pub group : MapGroup
   pub is : Contains groups group

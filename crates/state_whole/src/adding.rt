@@ -23,7 +23,7 @@ use state_lanes::{Lane, item_slots};
 use state_order::{KeyOrder, OrderFault, is_within};
 use std::alloc::AllocError;
 
-/// What the tuples of a file are of: keys of so many columns, and a slot for each lane of these aggregates. `kinds` says which lanes
+/// What the tuples of a file are of: keys of this many columns, and a slot for each lane of these aggregates. `kinds` says which lanes
 /// have numbers.
 #[derive(Clone, Copy)]
 pub struct Shape<'a> {
@@ -43,7 +43,7 @@ pub enum GroupFault {
     Range { number: u64 },
 }
 
-/// Which groups a sum keeps of those that files have: those whose keys, of so many columns, lie within this range.
+/// Which groups a sum keeps of those that files have: those whose keys, of this many columns, lie within this range.
 #[derive(Clone, Copy)]
 pub struct Kept<'a> {
     pub columns: u32,

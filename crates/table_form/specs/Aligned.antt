@@ -28,7 +28,7 @@ column_sizes header rows = map (λ at. column_size at (header ∷ rows)) (range_
 abbrev pub gap : List ℕ
 gap = 32 ∷ 32 ∷ []
 
--- a text in so many characters: to the left if it is a key, and otherwise to the right
+-- a text in this many characters: to the left if it is a key, and otherwise to the right
 abbrev pub aligned_cell : Bool → ℕ → List ℕ → List ℕ
 aligned_cell is_key size text = if is_key then text ++ replicate (size - characters text) 32 else replicate (size - characters text) 32 ++ text
 
@@ -44,6 +44,6 @@ dashes sizes = join_by (λ size. replicate size 45) gap sizes ++ 10 ∷ []
 abbrev pub sized_text : ℕ → List ℕ → List (List ℕ) → List (List (List ℕ)) → List ℕ
 sized_text keys sizes header rows = aligned_row keys sizes header ++ (dashes sizes ++ concat (map (aligned_row keys sizes) rows))
 
--- a table, of which the first so many columns are keys
+-- a table, of which the first this many columns are keys
 abbrev pub aligned_text : ℕ → List (List ℕ) → List (List (List ℕ)) → List ℕ
 aligned_text keys header rows = sized_text keys (column_sizes header rows) header rows

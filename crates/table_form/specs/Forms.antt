@@ -18,7 +18,7 @@ form_in name =
     else (if bytes_eq name (codes "aligned") then Some form.Aligned
     else None)))
 
--- the text of a table in a form; the first so many columns are keys
+-- the text of a table in a form; the first this many columns are keys
 abbrev pub form_text : Form → ℕ → List (List ℕ) → List (List (List ℕ)) → List ℕ
 form_text form.Csv keys header rows = table_text (header ∷ rows)
 form_text form.Tsv keys header rows = tsv_text (map read_back (header ∷ rows))

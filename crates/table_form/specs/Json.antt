@@ -55,6 +55,6 @@ json_member keys names row at = get_or names at [] ++ json_field (nat_lt at keys
 abbrev pub json_row : ℕ → List (List ℕ) → List (List ℕ) → List ℕ
 json_row keys names row = codes "{" ++ (join_by (json_member keys names row) (44 ∷ []) (range_with_len 0 (length names)) ++ codes "}\n")
 
--- the rows of a table, of which the first so many columns are keys
+-- the rows of a table, of which the first this many columns are keys
 abbrev pub json_text : ℕ → List (List ℕ) → List (List (List ℕ)) → List ℕ
 json_text keys header rows = concat (map (json_row keys (map json_name header)) rows)

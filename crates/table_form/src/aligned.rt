@@ -74,7 +74,7 @@ fn put_row(
     Ok(())
 }
 
-/// Puts what is shown of a field in so many characters: a key to the left, a number to the right.
+/// Puts what is shown of a field in this many characters: a key to the left, a number to the right.
 fn put_aligned(out: &mut Vec<u8>, text: &[u8], is_key: bool, size: usize) -> Result<(), AllocError>
     ensures { OnOk result (out.new.items ≡ out.old.items ++ aligned_cell is_key size text.now) }
 {
@@ -116,7 +116,7 @@ fn put_dashes(out: &mut Vec<u8>, sizes: &[usize]) -> Result<(), AllocError>
     Ok(())
 }
 
-/// Puts a byte so many times.
+/// Puts a byte this many times.
 fn put_times(out: &mut Vec<u8>, times: usize, byte: u8) -> Result<(), AllocError>
     ensures { OnOk result (out.new.items ≡ out.old.items ++ replicate times byte) }
 {

@@ -26,7 +26,7 @@ pub(crate) fn column_sizes(alloc: Global, text: &[u8]) -> Result<Vec<usize>, All
     Ok(sizes)
 }
 
-/// So many zeros.
+/// This many zeros.
 fn zeros(alloc: Global, count: usize) -> Result<Vec<usize>, AllocError>
     ensures { IfOk result (λ sizes. sizes.items ≡ replicate count 0) }
 {

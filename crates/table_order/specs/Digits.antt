@@ -14,7 +14,7 @@ size_in n = digits_value 10 (n.whole.now ++ n.part.now)
 abbrev pub units_in : Number → ℤ
 units_in n = signed n.minus (size_in n)
 
--- they are digits, with so many places, none of them a zero at the front, and zero has no sign
+-- they are digits, with this many places, none of them a zero at the front, and zero has no sign
 pub record IsSound (places : ℕ) (n : Number) : Type 0 where
   pub whole : list_all is_ascii_digit n.whole.now ≡ true
   pub part : list_all is_ascii_digit n.part.now ≡ true

@@ -16,7 +16,7 @@ size_to or_comma quoted (byte ∷ rest) =
 abbrev pub after_field : List ℕ → List ℕ
 after_field line = drop (size_to true false line + 1) line
 
--- what comes after so many fields
+-- what comes after this many fields
 unfoldable pub after_fields : ℕ → List ℕ → List ℕ
 after_fields zero line = line
 after_fields (suc count) line = after_fields count (after_field line)

@@ -5,11 +5,11 @@ use Rattle.std.specs.List.{after_first, list_all}
 use Rattle.std.specs.Str.Parse.{digits_value, starts_with_minus, without_leading_sign}
 use Rattle.par_model.specs.Number.{is_point, signed}
 
--- how many bytes the point and so many digits after it take; none without places
+-- how many bytes the point and this many digits after it take; none without places
 abbrev pub tail_size : ℕ → ℕ
 tail_size places = if places == 0 then 0 else places + 1
 
--- the bytes before the point of digits with so many places
+-- the bytes before the point of digits with this many places
 abbrev pub whole_of : ℕ → List ℕ → List ℕ
 whole_of places digits = take (length digits - tail_size places) digits
 
@@ -25,7 +25,7 @@ part_of places digits = drop 1 (tail_of places digits)
 abbrev pub is_tail : ℕ → List ℕ → Bool
 is_tail places tail = (places == 0) || ((slice_index tail 0 == 46) && list_all is_ascii_digit (drop 1 tail))
 
--- one or more ASCII digits, and a point and so many digits more if there are places
+-- one or more ASCII digits, and a point and this many digits more if there are places
 abbrev pub is_numeral : ℕ → List ℕ → Bool
 is_numeral places digits = nat_lt 0 (length (whole_of places digits)) && (list_all is_ascii_digit (whole_of places digits) && is_tail places (tail_of places digits))
 
@@ -33,7 +33,7 @@ is_numeral places digits = nat_lt 0 (length (whole_of places digits)) && (list_a
 abbrev pub size_of : ℕ → List ℕ → ℕ
 size_of places digits = digits_value 10 (whole_of places digits ++ part_of places digits)
 
--- whether a text writes a number with so many places, after at most one sign
+-- whether a text writes a number with this many places, after at most one sign
 abbrev pub is_number : ℕ → List ℕ → Bool
 is_number places text = is_numeral places (without_leading_sign text)
 

@@ -31,12 +31,12 @@ number_of places field = if is_number places field then units_of places field el
 abbrev pub other_of : ℕ → List ℕ → List ℕ
 other_of places field = if is_number places field then [] else field
 
--- fields as numbers with so many places: the numbers by their values, after them other texts byte by byte, and empty fields
+-- fields as numbers with this many places: the numbers by their values, after them other texts byte by byte, and empty fields
 -- last, from the least on or from the greatest on
 abbrev pub numbers_cmp : ℕ → Bool → List ℕ → List ℕ → Ordering
 numbers_cmp places down = then_cmp (on (class_of places) nat_cmp) (then_cmp (turned down (on (number_of places) int_cmp)) (turned down (on (other_of places) bytes_cmp)))
 
--- the order of fields: of their bytes, of numbers with so many places
+-- the order of fields: of their bytes, of numbers with this many places
 unfoldable pub fields_cmp : By → Bool → List ℕ → List ℕ → Ordering
 fields_cmp by.Bytes down = turned down bytes_cmp
 fields_cmp (by.Numbers places) down = numbers_cmp places down

@@ -10,7 +10,7 @@ abbrev pub AreOrdered : Option Order → List (List (List ℕ)) → List (List (
 AreOrdered None rows ordered = ordered ≡ rows
 AreOrdered (Some order) rows ordered = AreInOrder order rows ordered
 
--- so many of the first, or all of them
+-- this many of the first, or all of them
 abbrev pub first_of : {A : Type 0} → Option ℕ → List A → List A
 first_of None xs = xs
 first_of (Some limit) xs = take limit xs

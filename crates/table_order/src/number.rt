@@ -20,7 +20,7 @@ pub(crate) struct Number<'a> {
 }
 
 impl<'a> Number<'a> {
-    /// The number that a text writes with so many places, if it writes one.
+    /// The number that a text writes with this many places, if it writes one.
     pub(crate) fn of(text: &'a [u8], places: usize) -> Option<Number<'a>>
         ensures some { is_some result ≡ is_number places text.entry.now }
         ensures sound { IfSome result (IsSound places) }
@@ -122,7 +122,7 @@ fn has_minus(text: &[u8]) -> bool
     text.starts_with(b"-")
 }
 
-/// The bytes before the point of digits with so many places, and those from the point on.
+/// The bytes before the point of digits with this many places, and those from the point on.
 fn split_point(digits: &[u8], places: usize) -> (&[u8], &[u8])
     ensures whole { result.0.now ≡ whole_of places digits.entry.now }
     ensures tail { result.1.now ≡ tail_of places digits.entry.now }

@@ -5,7 +5,7 @@
 pub enum By {
     /// Byte by byte, as the groups of a table are.
     Bytes,
-    /// Numbers of any length that have so many digits after the point, by their values. A field that is none comes after
+    /// Numbers of any length that have this many digits after the point, by their values. A field that is none comes after
     /// all numbers, and an empty field last.
     Numbers(usize),
 }

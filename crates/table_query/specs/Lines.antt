@@ -36,7 +36,7 @@ item_places plan place = option_map_or (λ item. item.places) (slice_get plan.it
 abbrev pub filter_places : NamedPlan → ℕ → ℕ
 filter_places plan place = option_map_or (λ filter. filter.places) (slice_get plan.filters place) 0
 
--- what a field is not that is no number of at most so many places
+-- what a field is not that is no number of at most this many places
 abbrev pub number_kind : ℕ → List ℕ
 number_kind zero = codes " is not an integer"
 number_kind (suc zero) = codes " is not a decimal with at most 1 place"

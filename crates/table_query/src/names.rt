@@ -41,7 +41,7 @@ pub fn refusal_text(alloc: Global, plan: &Plan, why: Refusal) -> Result<String, 
     no_number(alloc, "filter column ", name, plan.filter_places(why.item))
 }
 
-/// What a line says of a field that is no number of at most so many places: a text, the name of its column, and what the
+/// What a line says of a field that is no number of at most this many places: a text, the name of its column, and what the
 /// field is not.
 fn no_number(alloc: Global, front: &str, name: &str, places: u32) -> Result<String, AllocError>
     ensures { IfOk result (λ text. string_bytes text ≡ front.now ++ (name.now ++ number_kind places)) }
@@ -52,7 +52,7 @@ fn no_number(alloc: Global, front: &str, name: &str, places: u32) -> Result<Stri
     Ok(text)
 }
 
-/// What a field is not that is no number of at most so many places.
+/// What a field is not that is no number of at most this many places.
 fn push_kind(text: &mut String, places: u32) -> Result<(), AllocError>
     ensures { OnOk result (string_bytes text.new ≡ string_bytes text.old ++ number_kind places) }
 {

@@ -7,7 +7,7 @@ ghost use Rattle.text_lines.specs.Begins.{AllEndFrom, BeginsAt, EndsBefore};
 
 use row_windows::header_end;
 
-/// The first byte of a record of lines, before which there are so many others; the lines begin with the end of a line. In
+/// The first byte of a record of lines, before which there are this many others; the lines begin with the end of a line. In
 /// time linear in the bytes up to it.
 pub fn record_begin(lines: &[u8], before: u64) -> usize
     requires line { BeginsLine lines.now }

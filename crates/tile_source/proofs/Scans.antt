@@ -27,7 +27,7 @@ first-len p (c ∷ rest) (suc m) f =
     } in
     rw no (ap suc (first-len (place_after p (c ∷ [])) rest m later))
 
--- so many bytes are passed over at first
+-- this many bytes are passed over at first
 pub cut-sure : (p : Place) (least : ℕ) (bytes : List ℕ) → least ≤ length bytes → cut_len p least bytes ≡ least + cut_len (place_after p (take least bytes)) 0 (drop least bytes)
 unfolding cut_len place_after
 cut-sure p zero [] le = refl

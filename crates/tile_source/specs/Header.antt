@@ -4,7 +4,7 @@ use Rattle.std.specs.Io.KnownBytes.{Consumes, IsAtEnd}
 use Rattle.csv_rows.specs.Records.{records_of}
 use Rattle.row_windows.specs.Seams.{IsCutAt}
 
--- so many bytes more were read of a source
+-- this many bytes more were read of a source
 pub record IsMore (old new : Option (List ℕ)) (was now : List ℕ) (count : ℕ) : Type 0 where
   pub more : List ℕ
   pub reads : Consumes old new more

@@ -7,7 +7,7 @@ use Rattle.tile_source.specs.declared.cut.Cut.{Cut}
 use Rattle.tile_source.specs.declared.tile.Tile.{Tile}
 use Rattle.tile_source.specs.declared.source.TileSource.{TileSource}
 
--- so many zeros
+-- this many zeros
 unfoldable pub zeros : ℕ → List ℕ
 zeros zero = []
 zeros (suc n) = 0 ∷ zeros n

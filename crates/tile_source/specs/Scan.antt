@@ -8,7 +8,7 @@ use Rattle.row_windows.specs.Seams.{is_line_end}
 abbrev pub is_seam : Place → ℕ → Bool
 is_seam p c = is_line_end c && not (is_quoted_place p)
 
--- how many bytes come before the first seam that has at least so many before it: all of them if there is none
+-- how many bytes come before the first seam that has at least this many before it: all of them if there is none
 unfoldable pub cut_len : Place → ℕ → List ℕ → ℕ
 cut_len p least [] = 0
 cut_len p zero (c ∷ rest) = if is_seam p c then 0 else suc (cut_len (place_after p (c ∷ [])) 0 rest)

@@ -91,7 +91,7 @@ fn first_seam(bytes: &[u8], start: Place) -> Seam
     }
 }
 
-/// How many of so many bytes come before a place that is so far away.
+/// How many of this many bytes come before a place that is so far away.
 fn sure_of(far: u64, count: usize) -> usize
     ensures { result ≡ min far count }
 {

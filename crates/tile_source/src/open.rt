@@ -18,7 +18,7 @@ use std::alloc::Global;
 const PIECE: usize = 65_536;
 
 /// The bytes of a file that a tile is to have: from the first seam at or after one place up to the first at or after another, of
-/// a file that has so many bytes.
+/// a file that has this many bytes.
 ///
 /// If `from` is 0 the source brings the file from its front on. Else it brings a line first that is the file's header, with a
 /// line feed at its end, or a carriage return and a line feed, and then the file from the place `from` on.

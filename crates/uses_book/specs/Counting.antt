@@ -16,8 +16,8 @@ abbrev pub total_of : List (Entry ℕ ℕ ℕ) → ℕ
 total_of [] = 0
 total_of (e ∷ es) = e.call + total_of es
 
--- The history that is seen ends with so many calls, with no others between them, which add 1 each and are the caller's
--- own next ones
+-- The history that is seen ends with this many calls, with no others between them, which add 1 each and are the
+-- caller's own next ones
 pub record EndsWithAdds (seen mine mine' : List (Entry ℕ ℕ ℕ)) (times : ℕ) : Type 0 where
   pub before : List (Entry ℕ ℕ ℕ)
   pub calls : List (Entry ℕ ℕ ℕ)

@@ -38,7 +38,7 @@ impl Work {
     }
 }
 
-/// Makes this many calls of a table of so many keys. Says how many went as they have to: of threads that share the
+/// Makes this many calls of a table of this many keys. Says how many went as they have to: of threads that share the
 /// table, each has `most` new keys there at once.
 fn calls_of<R: Wait>(
     rt: &R,

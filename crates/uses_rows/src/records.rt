@@ -35,7 +35,7 @@ const LINE: &[u8] = b"1234567\n";
 /// How many such lines are enough for two threads.
 const LINES: u64 = 16_384;
 
-/// So many lines.
+/// This many lines.
 fn all_lines(alloc: Global) -> Result<Vec<u8>, AllocError> {
     let mut text = Vec::new(alloc);
     for _ in 0..LINES {

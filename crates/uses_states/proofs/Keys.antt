@@ -12,7 +12,7 @@ use Rattle.partial_agg.proofs.Entries.{All-found}
 use Rattle.partial_agg.proofs.Joining.{equal}
 use Rattle.result_text.specs.Printable.{IsKeyOf}
 
--- each key of a map is the encoding of so many columns
+-- each key of a map is the encoding of this many columns
 pub HaveKeys : ℕ → GroupsByKey → Type 0
 HaveKeys count m = (key : List ℕ) (state : AggState) → map.get m key ≡ Some state → IsKeyOf count key
 

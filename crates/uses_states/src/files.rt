@@ -176,7 +176,7 @@ fn groups_of(alloc: Global) -> Result<Groups, Fail>
     Ok(map.into_groups())
 }
 
-/// A state of so many rows, with this slot where an aggregate reads the lane.
+/// A state of this many rows, with this slot where an aggregate reads the lane.
 fn state_of(rows: u64, slot: SlotState) -> AggState {
     let none = NO_VALUES;
     AggState {

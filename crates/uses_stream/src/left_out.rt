@@ -113,7 +113,7 @@ const ROWS: [Row; 14] = [
     ("--agg", 3, "v\n1\n", 2, "", USAGE),
 ];
 
-/// What a query answers that leaves out so many rows at most, but for the program's name in the line.
+/// What a query answers that leaves out this many rows at most, but for the program's name in the line.
 fn answered<R: Threads + Wait + Sync>(
     rt: &R,
     alloc: Global,

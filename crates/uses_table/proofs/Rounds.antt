@@ -111,7 +111,7 @@ module _ {S : Type 0} where
       ∙ sym (ap (λ (b : Bool). cond {A = ℕ} (is_some (cond b (Some e.1) (fin.find (slice_cmp nat_cmp) q es))) 1 0) (other_key q e.0 is))))
       (keys_same_or_not q e.0)
 
--- what so many ticks leave
+-- what this many ticks leave
 abbrev times : ℕ → Option Lease → Option Lease
 times zero o = o
 times (suc n) o = times n (ticked o)
@@ -183,7 +183,7 @@ module _ (n k : ℕ) where
       ∙ ap (λ (o : Option Lease). cond {A = ℕ} (is_some o) 1 0) there)) in
       all_ticked q visits s t x ∙ (ap (λ (h : ℕ). times h (fin.get s.cells q)) times_is ∙ once (fin.get s.cells q))
 
--- so many of a caller's calls took their key out after a turn more
+-- this many of a caller's calls took their key out after a turn more
 pub turn_freed : (n k : ℕ) (seen mine seen' mine' : Histories (PartitionState Lease) (PartitionCalls LeaseCall) (PartitionReplies Lease (Option Lease))) (c : PartitionCalls LeaseCall) (r : PartitionReplies Lease (Option Lease)) → AtPartition stepped n seen mine seen' mine' k c r
     → freed_in (mine' k) ≡ freed_in (mine k) + freed_by r
 turn_freed n k seen mine seen' mine' c r x = let grown = own_freed (λ _. PartitionLegal stepped k) fresh n (seen k) (mine k) (seen' k) (mine' k) ((c, r) ∷ []) x.here in omega (arith, grown)

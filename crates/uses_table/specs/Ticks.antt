@@ -72,8 +72,8 @@ pub record AreLater (seen seen' : LeaseHistories) (gone : ℕ) : Type 0 where
 
 -- the passes p of a table of leases and u of its area became q and w
 module _ {g : Ghosts (Numbered Lease Lease LeaseCall (Option Lease)) TableId (TableAsk Lease Lease LeaseCall (Option Lease)) (TableAnswer Lease Lease LeaseCall (Option Lease)) PartitionName (PartitionState Lease) (PartitionCalls LeaseCall) (PartitionReplies Lease (Option Lease))} (t : Dshash Lease Lease LeaseCall (Option Lease)) (a : Area) (p : LeasePass g) (u : AreaPass) (q : LeasePass g) (w : AreaPass) where
-  -- One listing of the partition, and then one tick of each key that it told, each once and of no other: so many were
-  -- visited, and so many of them were due. The item of each of these went back to the area
+  -- One listing of the partition, and then one tick of each key that it told, each once and of no other: this many were
+  -- visited, and this many of them were due. The item of each of these went back to the area
   pub record TicksEach (partition visited gone : ℕ) : Type 0 where
     pub each : VisitsEach stepped t a p u q w partition Tick visited
     pub moments : AllByRecursion (WasTicked (number_of p) (seen_of q partition)) each.visits

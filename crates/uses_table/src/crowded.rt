@@ -1,4 +1,4 @@
-//! Keys with one hash: a table whose calls have a bound takes so many of them and no more, and other keys still. A table
+//! Keys with one hash: a table whose calls have a bound takes this many of them and no more, and other keys still. A table
 //! with a seed, in which they have hashes of their own, takes them all.
 
 ghost use Rattle.dshash_parts.specs.Uses.{IsAtHome};

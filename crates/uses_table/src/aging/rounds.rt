@@ -41,7 +41,7 @@ pub fn tick_all<R: Wait>(
     Ok(gone)
 }
 
-/// Grants a key a lease of so many rounds. What was there before.
+/// Grants a key a lease of this many rounds. What was there before.
 fn grant<R: Wait>(
     rt: &R,
     leases: &Dshash<Lease>,
@@ -59,7 +59,7 @@ fn grant<R: Wait>(
     leases.call(rt, r, area, pass, apass, &[key], &LeaseCall::Grant(lease))
 }
 
-/// Grants the keys from 0 on leases of so many rounds. How many had room.
+/// Grants the keys from 0 on leases of this many rounds. How many had room.
 fn grant_all<R: Wait>(
     rt: &R,
     leases: &Dshash<Lease>,

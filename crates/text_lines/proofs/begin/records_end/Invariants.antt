@@ -1,6 +1,6 @@
 use Rattle.text_lines.specs.Begins.{EndsBefore}
 use Rattle.text_lines.proofs.begin.records_end.Given as goal
 
--- so many records end here
+-- this many records end here
 abbrev pub invariant-records : goal.invariant-records
 invariant-records l = record { ends : EndsBefore l.lines l._at l.end }
