@@ -14,7 +14,8 @@ import re
 import shutil
 import subprocess
 import sys
-import time
+
+from objects import timed
 
 HERE = os.path.dirname(os.path.abspath(__file__))
 TOP = os.path.dirname(HERE)
@@ -45,26 +46,13 @@ def build():
     return f"{package}/target/release/cache"
 
 
-def one_run(program, form, kind, threads, calls):
-    """Wall and processor time of a run, and the line that it prints."""
-    start = time.perf_counter()
-    child = subprocess.Popen([program, form, kind, str(threads), str(calls)], stdout=subprocess.PIPE, text=True)
-    line = child.stdout.read()
-    _, status, used = os.wait4(child.pid, 0)
-    wall = time.perf_counter() - start
-    child.returncode = os.waitstatus_to_exitcode(status)
-    if child.returncode:
-        sys.exit(f"{form} {kind} ended with {child.returncode}")
-    return wall, used.ru_utime + used.ru_stime, line
-
-
 def measured(program, kind, threads, calls, times):
     """Of each form the least wall and processor nanoseconds a call: of a run less one that makes a call."""
     found, lines = {}, set()
     for _ in range(times):
         for form in FORMS:
             for each in (1, calls // threads):
-                wall, used, line = one_run(program, form, kind, threads, each)
+                wall, used, line = timed([program, form, kind, str(threads), str(each)])
                 found.setdefault((form, each), []).append((wall, used))
                 lines.add(line)
     if len(lines) > 2:

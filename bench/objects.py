@@ -85,10 +85,8 @@ def programs(kind, builds):
     return [Program(build, [BUILDS[build]]) for build in builds] + [Program(name, [PEERS, form], preload) for name, form, preload in peers[kind]]
 
 
-def one_run(program, load, calls):
-    """Wall and processor time of a run, and the line that it prints."""
-    words = program.words + [load.kind, str(load.threads), str(calls), str(load.size)]
-    environment = {**os.environ, "LD_PRELOAD": program.preload} if program.preload else None
+def timed(words, environment=None):
+    """Wall and processor time of a command, and the line that it prints."""
     start = time.perf_counter()
     child = subprocess.Popen(words, stdout=subprocess.PIPE, text=True, env=environment)
     line = child.stdout.read()
@@ -98,6 +96,12 @@ def one_run(program, load, calls):
     if child.returncode:
         sys.exit(f"{' '.join(words)} ended with {child.returncode}")
     return wall, used.ru_utime + used.ru_stime, line
+
+
+def one_run(program, load, calls):
+    """The times and the line of a run of a program."""
+    environment = {**os.environ, "LD_PRELOAD": program.preload} if program.preload else None
+    return timed(program.words + [load.kind, str(load.threads), str(calls), str(load.size)], environment)
 
 
 def measured(load, builds, times):

@@ -1,4 +1,4 @@
-//! A table of chunks in an area of its own: a number is kept, raised where it is, replaced and taken.
+//! A table of chunks in an area made for it: a number is kept, raised where it is, replaced and taken.
 
 ghost use Rattle.std.specs.Prelude.{◌≤◌, ◌≡◌, IfOk};
 ghost use Rattle.dsa_area.specs.Shown.{Belongs, IsArea};

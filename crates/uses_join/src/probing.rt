@@ -25,7 +25,7 @@ use std::thread::{Threads, join};
 /// How many keys the rows have.
 const KEYS: u64 = 100;
 
-/// A table of keys of one word for one caller, in an area of its own, and the caller's two passes.
+/// A table of keys of one word for one caller, in an area made for it, and the caller's two passes.
 fn table_for_rows<R: Wait>(
     rt: &R,
     alloc: Global,
